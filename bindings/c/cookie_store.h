@@ -184,7 +184,8 @@ enum cookie_store_status {
     /* The limit, or the number of shards, is 0. */
     COOKIE_STORE_BAD_LIMIT = 28,
     /* The number of a format, of which cookies are saved or loaded, or of a SameSite attribute is
-     * not in its enum; or a flag is unknown. */
+     * not in its enum; or a flag is unknown; or the lengths of header values do not add up, or are
+     * not as many as the statuses. */
     COOKIE_STORE_BAD_OPTION = 29,
 
     /* A line of the public suffix list is not a rule. Its number is reported. */
@@ -400,6 +401,24 @@ enum cookie_store_status cookie_store_set_hash_key(cookie_store *store, const ch
  * host. */
 enum cookie_store_status cookie_store_parse(cookie_store *store, const char *url, size_t url_len, const char *value,
                                           size_t value_len, int64_t now);
+
+/* Parses all Set-Cookie header values of a response received from `url`, and inserts the cookies. For
+ * each value, in order, it does what cookie_store_parse does, but it parses the URL once.
+ *
+ * `values` has the header values one after the other, and nothing between them. `lens` has their
+ * lengths, and `lens_len` is how many there are. `statuses` is set to what cookie_store_parse returns
+ * for each, and `statuses_len` is the same number. A value that is rejected, that is not UTF-8 or
+ * for which memory runs out changes nothing, and those after it are inserted.
+ *
+ * Returns OK, whatever the statuses are, or an error of the whole call. Then the store is unchanged
+ * and `statuses` is not written.
+ *
+ * Errors, in the order in which they are checked: NO_STORE, BAD_OPTION (the lengths do not add up to
+ * `values_len`, or `statuses_len` is not `lens_len`), NOT_UTF8 (the URL), BAD_TIME, BAD_URL.
+ * May return NO_MEMORY instead of BAD_URL or OK. */
+enum cookie_store_status cookie_store_parse_each(cookie_store *store, const char *url, size_t url_len, const char *values,
+                                               size_t values_len, const size_t *lens, size_t lens_len, int64_t now,
+                                               enum cookie_store_status *statuses, size_t statuses_len);
 
 /* Flags of a cross-site request, to be combined with `|`. */
 enum cookie_store_cross_site {

@@ -86,6 +86,30 @@ static enum cookie_store_status parse_over_secure(cookie_store *store) {
     return status == COOKIE_STORE_OK ? cookie_store_parse(store, TEXT(PAGE), TEXT("s=5; Path=/"), NOW) : status;
 }
 
+/* Whether the status is this one, or memory ran out. */
+static bool is_or_ran_out(enum cookie_store_status status, enum cookie_store_status wanted) {
+    return status == wanted || status == COOKIE_STORE_NO_MEMORY;
+}
+
+/* Two cookies with one name, and what is not a cookie between them: memory runs out for one of them at most, and each
+   that is inserted is one more. */
+static enum cookie_store_status response_at(cookie_store *store, size_t last, int64_t now) {
+    const size_t lens[] = {11, 7, last}, before = cookie_store_count(store);
+    enum cookie_store_status statuses[3];
+    enum cookie_store_status status =
+        cookie_store_parse_each(store, TEXT(PAGE), TEXT("r=1; Path=/no pairr=2; Path=/"), lens, 3, now, statuses, 3);
+    if (status != COOKIE_STORE_OK) return status;
+    bool is_first_in = statuses[0] != COOKIE_STORE_NO_MEMORY;
+    bool is_well = is_or_ran_out(statuses[0], COOKIE_STORE_INSERTED) && is_or_ran_out(statuses[1], COOKIE_STORE_PARSE) &&
+                   is_or_ran_out(statuses[2], is_first_in ? COOKIE_STORE_UPDATED : COOKIE_STORE_INSERTED) &&
+                   (is_first_in || statuses[2] != COOKIE_STORE_NO_MEMORY) && cookie_store_count(store) == before + 1;
+    return is_well ? COOKIE_STORE_OK : COOKIE_STORE_PARSE;
+}
+
+static enum cookie_store_status parse_each(cookie_store *store) { return response_at(store, 11, NOW); }
+static enum cookie_store_status parse_each_bad_length(cookie_store *store) { return response_at(store, 12, INT64_MAX); }
+static enum cookie_store_status parse_each_bad_time(cookie_store *store) { return response_at(store, 11, INT64_MAX); }
+
 static enum cookie_store_status insert_at(cookie_store *store, const char *path, int64_t now) {
     cookie_store_row row = {.expires = NOW + 60, .persistent = true, .host_only = true, .has_path = true};
     return cookie_store_insert(store, TEXT("b.example"), TEXT(path), TEXT("p"), TEXT("1"), &row, now);
@@ -329,6 +353,10 @@ static const struct {
     {"parse again", true, parse_again, COOKIE_STORE_UPDATED, false},
     {"parse, strict", true, parse_strict, COOKIE_STORE_INSERTED, false},
     {"parse, strict, over a Secure cookie", true, parse_over_secure, COOKIE_STORE_SECURE_STORED, false},
+    {"parse_each", true, parse_each, COOKIE_STORE_OK, false},
+    {"parse_each of none", false, parse_each, COOKIE_STORE_NO_STORE, true},
+    {"parse_each, a length too long", true, parse_each_bad_length, COOKIE_STORE_BAD_OPTION, true},
+    {"parse_each, a time out of range", true, parse_each_bad_time, COOKIE_STORE_BAD_TIME, true},
     {"parse_for", true, parse_for, COOKIE_STORE_INSERTED, false},
     {"parse_for, cross-site", true, parse_for_cross_site, COOKIE_STORE_CROSS_SITE_RESPONSE, false},
     {"parse_for of none", false, parse_for, COOKIE_STORE_NO_STORE, true},

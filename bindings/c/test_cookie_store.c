@@ -1,8 +1,8 @@
 /* Calls each function of cookie_store.h with good and bad arguments, but for cookie_store_insert
-   (test_insert.c), those of lists (test_lists.c), of strict stores and of cross-site requests
-   (test_strict.c): what happens to a cookie, the statuses that calls return, each buffer one byte too
-   short, and the layout of the structs. Failures are reported on standard error. The last line is
-   'test_cookie_store: N passed, M failed'. */
+   (test_insert.c), cookie_store_parse_each (test_response.c), those of lists (test_lists.c), of strict
+   stores and of cross-site requests (test_strict.c): what happens to a cookie, the statuses that calls
+   return, each buffer one byte too short, and the layout of the structs. Failures are reported on
+   standard error. The last line is 'test_cookie_store: N passed, M failed'. */
 #include "test.h"
 #include <stddef.h>
 

@@ -1,5 +1,5 @@
 /* Calls each function of cookie_store.h once with large input and compares what it returns and writes: a value of 4 KB, a URL
-   of 3 KB, a header of 100 KB, the longest values of a strict store, 60 cookies for a request, 6,000 cookies, lists of 400 KB
+   of 3 KB, a header of 100 KB, the longest values of a strict store, 60 cookies for a request or of a response, 6,000 cookies, lists of 400 KB
    and more, a file of 2 MB with 5,000 lines, lists nested a million deep. The calls may use STACK bytes of the stack, and NESTED
    for the last of these. Failures are reported on standard error. The last line is 'test_large: N passed, M failed'. */
 #define _XOPEN_SOURCE 600 /* pthread_attr_setstack */
@@ -163,6 +163,28 @@ static void test_request(void) {
           cookie_store_parse_for(&store, TEXT("https://a.example/"), TEXT("https://b.example/"), input, input_len, NOW,
                                  COOKIE_STORE_CROSS_SITE),
           COOKIE_STORE_UPDATED);
+    cookie_store_free(&store);
+}
+
+/* The 60 cookies of a response, of 2 KB each. */
+static void test_response(void) {
+    static enum cookie_store_status statuses[REQUEST];
+    static size_t lens[REQUEST];
+    cookie_store store = COOKIE_STORE_INIT;
+    size_t needed = UNSET;
+    begin(&store);
+    for (int number = 0; number < REQUEST; number++) {
+        size_t before = input_len;
+        append(input, &input_len, "n%d=", number);
+        fill(input, &input_len, 'v', VALUE / 2);
+        lens[number] = input_len - before;
+        append(wanted, &wanted_len, "%s%.*s", wanted_len ? "; " : "", (int)lens[number], input + before);
+    }
+    equal("parse_each", cookie_store_parse_each(&store, TEXT(PAGE), input, input_len, lens, REQUEST, NOW, statuses, REQUEST),
+          COOKIE_STORE_OK);
+    for (int number = 0; number < REQUEST; number++) equal("a status of 60", statuses[number], COOKIE_STORE_INSERTED);
+    equal("header of a response", cookie_store_header(&store, TEXT(PAGE), NOW, out, sizeof out, &needed), COOKIE_STORE_OK);
+    same_long("60 cookies", needed);
     cookie_store_free(&store);
 }
 
@@ -466,6 +488,7 @@ static void *run_tests(void *unused) {
     test_long_strings();
     test_strict();
     test_request();
+    test_response();
     test_stored();
     test_limit();
     test_suffixes();

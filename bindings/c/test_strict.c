@@ -61,7 +61,8 @@ static const struct parse_case STRICT_READ[] = {
     {"http://alocalhost/", "s=1; Secure", COOKIE_STORE_INSECURE_URL},
 };
 
-/* The Cookie header of a URL after a header value was received from it: in a strict store, and in another one. */
+/* The Cookie header of a URL after a header value was received from it, and so whether cookie_store_cookies_for has a cookie: in a
+ * strict store, and in another one. */
 static const struct {
     const char *url, *text, *strict, *plain;
 } READ[] = {
@@ -99,6 +100,9 @@ static void test_strict_limit(void) {
 /* How a header value is read, and whether a URL is secure. */
 static void test_strict_reading(void) {
     cookie_store store = COOKIE_STORE_INIT;
+    cookie_store_row row;
+    char strings[64];
+    size_t count, length;
     cookie_store_new(&store, "", 0);
     cookie_store_set_strict(&store, true);
     parse_all(&store, STRICT_READ, sizeof STRICT_READ / sizeof *STRICT_READ);
@@ -109,7 +113,10 @@ static void test_strict_reading(void) {
             cookie_store_clear(&store);
             cookie_store_set_strict(&store, is_strict);
             parse(&store, READ[at].url, READ[at].text, NOW);
-            gives(name, &store, READ[at].url, NOW, is_strict ? READ[at].strict : READ[at].plain);
+            const char *wanted = is_strict ? READ[at].strict : READ[at].plain;
+            gives(name, &store, READ[at].url, NOW, wanted);
+            cookie_store_cookies_for(&store, TEXT(READ[at].url), NOW, &row, 1, strings, sizeof strings, &count, &length);
+            equal(name, count, *wanted != 0);
         }
     }
     cookie_store_free(&store);

@@ -33,9 +33,10 @@ func (j *Jar) parseAll(u *url.URL, cookies []*http.Cookie) (dropped []droppedCoo
 	s := j.shardOf(u)
 	s.mu.Lock()
 	defer s.mu.Unlock()
-	url, now := s.address(u), j.seconds()
-	for _, cookie := range cookies {
-		if err := s.parse(url, setCookie(cookie), now); err != nil {
+	s.response.set(cookies)
+	s.parseResponse(s.address(u), j.seconds())
+	for i, cookie := range cookies {
+		if err := errorOf(s.response.statuses[i], 0); err != nil {
 			dropped = append(dropped, droppedCookie{cookie.Name, err})
 		}
 	}
@@ -49,6 +50,10 @@ func setCookie(cookie *http.Cookie) string {
 	}
 	return cookie.String()
 }
+
+// SetCookieValue returns the Set-Cookie header value by which SetCookies inserts a cookie, for a http.CookieJar of your own over
+// Parse or ParseFor.
+func SetCookieValue(cookie *http.Cookie) string { return setCookie(cookie) }
 
 // Cookies returns the names and values of the cookies of a request for u, in the order of Header. It returns nil if there are
 // none, and on an error, such as ErrBadURL, or ErrClosed after Close. It passes that error, and each cookie that Header would

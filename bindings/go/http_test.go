@@ -468,3 +468,28 @@ func TestClient(t *testing.T) {
 		}
 	}
 }
+
+// One call for all cookies of a response does what a call of Parse for each does.
+func TestSetCookiesAsParse(t *testing.T) {
+	cookies := received("a=1", "b=2; Domain=other.com", "a=3", "c=4; Path=/\xff", "d=5; Max-Age=0", "e=6; Path=/", "f=7; Secure", "a=; Max-Age=0")
+	for _, address := range []string{"http://example.com/x/y", "https://example.com/", "http://web.1/"} {
+		for _, strict := range []bool{false, true} {
+			var dropped, want []string
+			jar := newJar(t, &Options{Strict: strict, OnDropped: func(_, name string, err error) {
+				dropped = append(dropped, fmt.Sprint(name, err))
+			}})
+			peer, u := newJar(t, &Options{Strict: strict}), parseURL(t, address)
+			jar.SetCookies(u, cookies)
+			jar.SetCookies(u, nil)
+			for _, cookie := range cookies {
+				if err := peer.Parse(u, cookie.Raw); err != nil {
+					want = append(want, fmt.Sprint(cookie.Name, err))
+				}
+			}
+			if !reflect.DeepEqual(dropped, want) {
+				t.Errorf("%s: dropped %q, want %q", address, dropped, want)
+			}
+			expectAll(t, address, jar, peer.All())
+		}
+	}
+}

@@ -3,7 +3,7 @@ package cookiestore
 // #cgo pkg-config: cookie_store
 // #include <cookie_store.h>
 //
-// // The two calls of each request take a handle as bytes: cgo would look for Go pointers in another one each time.
+// // The calls of each request take a handle as bytes: cgo would look for Go pointers in another one each time.
 // static enum cookie_store_status parse(char *store, const char *url, size_t url_len, const char *value, size_t value_len,
 // 	int64_t now) {
 // 	return cookie_store_parse((cookie_store *)store, url, url_len, value, value_len, now);
@@ -162,12 +162,12 @@ func (j *Jar) Parse(u *url.URL, setCookie string) error {
 	s := j.shardOf(u)
 	s.mu.Lock()
 	defer s.mu.Unlock()
-	return s.parse(s.address(u), setCookie, j.seconds())
+	return errorOf(s.parse(s.address(u), setCookie, j.seconds()), 0)
 }
 
-// parse is Parse while the shard is locked.
-func (s *shard) parse(url, setCookie string, now C.int64_t) error {
-	return errorOf(C.parse(s.handle(), chars(url), size(url), chars(setCookie), size(setCookie), now), 0)
+// parse is Parse while the shard is locked, and returns a status.
+func (s *shard) parse(url, setCookie string, now C.int64_t) C.enum_cookie_store_status {
+	return C.parse(s.handle(), chars(url), size(url), chars(setCookie), size(setCookie), now)
 }
 
 // Header returns the value of the Cookie header of a request for u, RFC 6265 5.4, or "" if none is to be sent. Names and values

@@ -18,6 +18,8 @@ type shard struct {
 	url    []byte   // the URL of a call
 	header []byte   // its Cookie header
 	needed C.size_t // what it reports of its buffer
+
+	response response // the header values of SetCookies
 }
 
 // handle returns the address of the handle, which has no pointer into Go's memory.

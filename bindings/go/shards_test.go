@@ -217,6 +217,28 @@ func TestSplitFiles(t *testing.T) {
 	}
 }
 
+// A jar of many domains is loaded into shards and merged in time that grows with their number, not with its square.
+func TestSplitManyDomains(t *testing.T) {
+	const domains, most = 50_000, 10 * time.Second
+	list := strings.Builder{}
+	for i := 0; i < domains; i++ {
+		fmt.Fprintf(&list, ".h%d.com\tTRUE\t/\tFALSE\t4000000000\ta\t1\n", i)
+	}
+	begun := time.Now()
+	jar, err := Load(strings.NewReader("# Netscape HTTP Cookie File\n"+list.String()), Netscape, AllCookies, strictOptions(4))
+	if err != nil {
+		t.Fatal(err)
+	}
+	defer jar.Close()
+	expectSame(t, "number", jar.Len(), domains)
+	other := newJar(t, strictOptions(3))
+	leftOut, err := other.Merge(jar)
+	expectSame(t, "left out", []any{leftOut, err, other.Len()}, []any{0, nil, domains})
+	if took := time.Since(begun); took > most {
+		t.Errorf("%d domains took %v", domains, took)
+	}
+}
+
 func TestSplitMerge(t *testing.T) {
 	for _, shards := range [][2]int{{1, 1}, {1, 4}, {4, 1}, {4, 3}} {
 		from, to := newJar(t, strictOptions(shards[0])), newJar(t, strictOptions(shards[1]))

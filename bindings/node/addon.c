@@ -192,6 +192,31 @@ static napi_value parse(napi_env env, napi_callback_info info) {
     return inserted(env, self, status);
 }
 
+/* Inserts the cookies of a response, and returns the numbers of their statuses. */
+static napi_value parse_response(napi_env env, struct store *self, const struct text *url, struct response *response, int64_t now) {
+    enum cookie_store_status status =
+        cookie_store_parse_each(&self->handle, url->bytes, url->length, response->bytes, response->length, response->lens,
+                                response->count, now, response->statuses, response->count);
+    if (status != COOKIE_STORE_OK) return fail(env, status, 0);
+    count_memory(env, self);
+    return statuses_of(env, response);
+}
+
+/* parseEach(url, values, now): the numbers of the statuses of an array of header values. */
+static napi_value parse_each(napi_env env, napi_callback_info info) {
+    napi_value args[3], result = NULL;
+    struct text url;
+    struct response response;
+    int64_t now;
+    struct store *self = receiver(env, info, args, COUNT(args));
+    if (self == NULL || !read_time(env, args[2], "now", &now) || !read_texts(env, args, (const char *[]){"url"}, &url, 1))
+        return NULL;
+    if (read_response(env, args[1], &response)) result = parse_response(env, self, &url, &response, now);
+    free_response(&response);
+    free_texts(&url, 1);
+    return result;
+}
+
 /* parseFor(url, page, value, now, flags): the same of the response to a request that a page made. */
 static napi_value parse_for(napi_env env, napi_callback_info info) {
     napi_value args[5];
@@ -595,11 +620,11 @@ NAPI_MODULE_INIT() {
     const napi_property_descriptor methods[] = {
         METHOD("close", close_store), METHOD("copyTo", copy_to), METHOD("setSuffixList", set_suffix_list),
         METHOD("setDomainLimit", set_domain_limit), METHOD("domainLimit", domain_limit), METHOD("setStrict", set_strict),
-        METHOD("isStrict", is_strict), METHOD("count", count), METHOD("parse", parse), METHOD("parseFor", parse_for),
-        METHOD("insert", insert), METHOD("header", header), METHOD("headerFor", header_for), METHOD("cookies", cookies),
-        METHOD("expiryOf", expiry_of), METHOD("cookiesFor", cookies_for), METHOD("remove", remove_cookie),
-        METHOD("removeDomain", remove_domain), METHOD("removeExpired", remove_expired), METHOD("clear", clear),
-        METHOD("merge", merge), METHOD("save", save), METHOD("load", load), METHOD("root", root),
+        METHOD("isStrict", is_strict), METHOD("count", count), METHOD("parse", parse), METHOD("parseEach", parse_each),
+        METHOD("parseFor", parse_for), METHOD("insert", insert), METHOD("header", header), METHOD("headerFor", header_for),
+        METHOD("cookies", cookies), METHOD("expiryOf", expiry_of), METHOD("cookiesFor", cookies_for),
+        METHOD("remove", remove_cookie), METHOD("removeDomain", remove_domain), METHOD("removeExpired", remove_expired),
+        METHOD("clear", clear), METHOD("merge", merge), METHOD("save", save), METHOD("load", load), METHOD("root", root),
         METHOD("rootOfDomain", root_of_domain),
     };
     napi_value store;

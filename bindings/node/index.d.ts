@@ -27,6 +27,9 @@ export type Rejection =
   | 'CONTROL_CHARACTER' | 'TOO_LONG' | 'INSECURE_URL' | 'INSECURE_SAME_SITE_NONE' | 'PREFIX' | 'SECURE_STORED' | 'SECURE_LIMIT'
   | 'CROSS_SITE_RESPONSE';
 
+/** What receive() returns of a header value. */
+export type Received = Accepted | Rejection | 'NOT_UTF8' | 'NO_MEMORY';
+
 /** Why a call fails. */
 export type Failure =
   | 'NO_MEMORY' | 'BAD_URL' | 'NOT_UTF8' | 'BAD_TIME' | 'NO_STORE' | 'BAD_LIMIT' | 'BAD_OPTION' | 'BAD_RULE' | 'NO_RULES' | 'NO_LIST'
@@ -220,6 +223,13 @@ export class CookieStore implements Iterable<StoredCookie> {
    * cross-site response that is not SameSite=None is CROSS_SITE_RESPONSE. Code: BAD_URL.
    */
   parse(url: Address, value: Text, options?: PageOptions): Accepted | Rejection;
+
+  /**
+   * Inserts the cookies of the Set-Cookie headers of a response from `url`, in order and in one call. Returns for each header value
+   * what parse() returns, or NOT_UTF8 or NO_MEMORY, which parse() throws. `values` may be undefined, as `headers['set-cookie']` of
+   * node:http is without such a header. In a subclass with a method parse() it calls that. Code: BAD_URL.
+   */
+  receive(url: Address, values: Iterable<Text> | null | undefined, options?: TimeOptions): Received[];
 
   /**
    * Inserts a cookie by its parts, as if its own domain had sent it. Returns what parse() returns: PARSE if no server can set the

@@ -148,6 +148,100 @@ static napi_value lines_of(napi_env env, const size_t *lines, size_t count) {
     return array;
 }
 
+/* The header values of a response, one after the other, and their lengths, with room for their statuses: in buffers of the call or, if
+ * there are more, on the heap. */
+struct response {
+    size_t count, length, room;
+    char *bytes;
+    size_t *lens;
+    enum cookie_store_status *statuses;
+    size_t few_lens[20];
+    enum cookie_store_status few_statuses[20];
+    char stack[4000];
+};
+
+static void free_response(struct response *response) {
+    if (response->bytes != response->stack) free(response->bytes);
+    if (response->lens != response->few_lens) free(response->lens);
+    if (response->statuses != response->few_statuses) free(response->statuses);
+}
+
+/* Sets the buffers of a response without header values, for this many. */
+static bool begin_response(napi_env env, struct response *response, size_t count) {
+    response->count = response->length = 0;
+    response->room = sizeof response->stack;
+    response->bytes = response->stack;
+    response->lens = response->few_lens;
+    response->statuses = response->few_statuses;
+    if (count <= COUNT(response->few_lens)) return true;
+    response->lens = malloc(count * sizeof *response->lens);
+    response->statuses = malloc(count * sizeof *response->statuses);
+    if (response->lens != NULL && response->statuses != NULL) return true;
+    fail(env, COOKIE_STORE_NO_MEMORY, 0);
+    return false;
+}
+
+/* Makes room for more bytes. */
+static bool extend_response(napi_env env, struct response *response, size_t length) {
+    if (length <= response->room - response->length) return true;
+    response->room = 2 * (response->length + length);
+    char *bytes = malloc(response->room);
+    if (bytes == NULL) {
+        fail(env, COOKIE_STORE_NO_MEMORY, 0);
+        return false;
+    }
+    memcpy(bytes, response->bytes, response->length);
+    if (response->bytes != response->stack) free(response->bytes);
+    response->bytes = bytes;
+    return true;
+}
+
+/* Appends an element of an array to a response. */
+static bool append_value(napi_env env, napi_value array, uint32_t at, struct response *response) {
+    napi_value value;
+    struct text text;
+    if (napi_get_element(env, array, at, &value) != napi_ok) return false;
+    bool is_read = read_text(env, value, "value", &text) && extend_response(env, response, text.length);
+    if (is_read) {
+        memcpy(response->bytes + response->length, text.bytes, text.length);
+        response->length += text.length;
+        response->lens[response->count++] = text.length;
+    }
+    free_texts(&text, 1);
+    return is_read;
+}
+
+/* Reads an array of header values, to be freed by free_response, also if it fails. */
+static bool read_response(napi_env env, napi_value array, struct response *response) {
+    uint32_t count;
+    if (napi_get_array_length(env, array, &count) != napi_ok) {
+        begin_response(env, response, 0);
+        return wrong_type(env, "values", "an array");
+    }
+    bool is_read = begin_response(env, response, count);
+    for (uint32_t at = 0; is_read && at < count; at++) {
+        napi_handle_scope scope;
+        if (napi_open_handle_scope(env, &scope) != napi_ok) {
+            fail(env, COOKIE_STORE_NO_MEMORY, 0);
+            return false;
+        }
+        is_read = append_value(env, array, at, response);
+        napi_close_handle_scope(env, scope);
+    }
+    return is_read;
+}
+
+/* Returns an array of the numbers of the statuses. */
+static napi_value statuses_of(napi_env env, const struct response *response) {
+    napi_value array;
+    if (napi_create_array_with_length(env, response->count, &array) != napi_ok) return fail(env, COOKIE_STORE_NO_MEMORY, 0);
+    for (size_t at = 0; at < response->count; at++) {
+        napi_value status = number(env, response->statuses[at]);
+        if (status == NULL || napi_set_element(env, array, (uint32_t)at, status) != napi_ok) return NULL;
+    }
+    return array;
+}
+
 /* Rows and their strings, in buffers of the call or, if there are more, on the heap. */
 struct listing {
     size_t count, length;

@@ -1,4 +1,4 @@
-"""Times a call from C, Python and Node, files of cookies, and requests of clients, beside Python's http.cookiejar and tough-cookie.
+"""Times a call from C, Python, Go and Node, files of cookies, and requests of clients, beside Python's http.cookiejar and others.
 Usage: tools/bench bindings [--archive FILE]
 
 Prints microseconds of processor time a call, the least of three runs, and how many times as long http.cookiejar takes as
@@ -9,9 +9,12 @@ folder, from --archive; without it the library is proved and built first. Needs 
 
 It prints how many times as long a call of the C library takes in a store under the rules of browsers.
 
-Then it prints the same of Node's CookieStore and CookieJar, and how many times as long tough-cookie takes: for cookies of hosts
-with 20 each, and for one host whose cookies have a path each. That is left out without Node and its headers, and the ratios without
-tough-cookie.
+Of Go it prints how many calls of 16 goroutines end in a second by the clock, each with hosts of its own, on a jar that is split
+into shards or not, and on one of net/http/cookiejar, and their ratios to that one. That is left out without Go.
+
+Then it prints the times of Node's CookieStore and CookieJar, and how many times as long tough-cookie takes: for cookies of hosts
+with 20 each, and for one host whose cookies have a path each. The cookies of a response are set by one call of a CookieStore, and
+by a call for each of a jar. That is left out without Node and its headers, and the ratios without tough-cookie.
 
 Exit status: 0; 1 if a call fails, or if a request has other cookies without a store; on an idle machine also if a peer is
 ahead, or if under those rules a header takes more than 1.2 times as long, or a set more than 1.3 times."""
@@ -27,7 +30,7 @@ import tempfile
 import time
 import urllib.request
 
-from bench_parts import clients, report
+from bench_parts import clients, goroutines, report
 from bench_parts.jar import Response
 from common import ROOT, compile_c, install, stop
 
@@ -38,6 +41,7 @@ SECONDS = 0.2  # that a run takes
 LINES = 100_000  # of a cookies.txt file
 NODE_COOKIES = [1000, 100_000]
 STRICT = {'set': ('set_strict', 'set a cookie', 1.3), 'get_many': ('get_strict', f'header, {EACH} cookies a host', 1.2)}
+RESPONSE = f'set the {EACH} cookies of a response'
 HEADERS = [f'c{number}=value{number}; Path=/; Max-Age=86400' for number in range(EACH)]
 
 
@@ -95,6 +99,7 @@ def measure_store(module):
     for url in urls:
         one.parse(url, 'c0=value0; Path=/', NOW)
     took = {'set': measure(lambda pair: many.parse(*pair, NOW), [(url, header) for url in urls for header in HEADERS])}
+    took['response'] = measure(lambda url: many.receive(url, HEADERS, NOW), urls)
     took['get_one'] = measure(lambda url: one.header(url, NOW), urls)
     took['get_many'] = measure(lambda url: many.header(url, NOW), urls)
     took['count'] = measure(lambda _: len(many), urls)
@@ -113,7 +118,8 @@ def add_and_remove(jar, request):
 def measure_jar(new):
     requests = [urllib.request.Request(f'http://h{number}.example/a/b') for number in range(HOSTS)]
     many, one, all_of, first = new(), new(), Response(HEADERS), Response(HEADERS[:1])
-    took = {'set': measure(lambda request: many.extract_cookies(all_of, request), requests) / EACH}
+    took = {'response': measure(lambda request: many.extract_cookies(all_of, request), requests)}
+    took['set'] = took['response'] / EACH
     for request in requests:
         one.extract_cookies(first, request)
     took['get_one'] = measure(lambda request: add_and_remove(one, request), requests)
@@ -168,8 +174,8 @@ def print_node(number, times):
     behind, peer = [], times.get('tough-cookie')
     heads = ['CookieStore', 'CookieJar', 'tough-cookie']
     print(f'Node, {number:,} cookies, microseconds'.ljust(38) + ''.join(head.rjust(15) for head in heads) + 'ratios'.rjust(20))
-    rows = [('set', 'set a cookie'), ('set_domain', 'set a cookie with Domain'), ('get_many', 'header, 20 cookies a host'),
-            ('get_path', 'header, 1 cookie of all of a host')]
+    rows = [('set', 'set a cookie'), ('set_response', RESPONSE), ('set_domain', 'set a cookie with Domain'),
+            ('get_many', 'header, 20 cookies a host'), ('get_path', 'header, 1 cookie of all of a host')]
     for key, name in rows:
         own, ratios = [times[jar][key] for jar in ('CookieStore', 'CookieJar')], []
         if peer:
@@ -186,14 +192,15 @@ def print_calls(columns):
     """Prints the table of calls, and returns what is behind http.cookiejar."""
     behind = []
     heads = ['C', 'CookieStore', 'StoreJar', 'http.cookiejar', 'ratio']
-    print(f'{HOSTS} hosts, microseconds'.ljust(26) + ''.join(head.rjust(15) for head in heads))
-    rows = [('set', 'set a cookie'), ('get_one', 'header, 1 cookie a host'), ('get_many', f'header, {EACH} cookies a host'),
-            ('count', 'count'), ('iterate', 'iterate over all'), ('iterate_changed', 'iterate after a set')]
+    print(f'{HOSTS} hosts, microseconds'.ljust(34) + ''.join(head.rjust(15) for head in heads))
+    rows = [('set', 'set a cookie'), ('response', RESPONSE), ('get_one', 'header, 1 cookie a host'),
+            ('get_many', f'header, {EACH} cookies a host'), ('count', 'count'), ('iterate', 'iterate over all'),
+            ('iterate_changed', 'iterate after a set')]
     for key, name in rows:
         took = [f'{column[key] * 1e6:.2f}' if key in column else '-' for column in columns]
         ratio = columns[3][key] / columns[2][key]
         behind += report.behind(f'StoreJar, {name}', 'http.cookiejar', ratio)
-        print(name.ljust(26) + ''.join(each.rjust(15) for each in [*took, f'{ratio:.2f}']))
+        print(name.ljust(34) + ''.join(each.rjust(15) for each in [*took, f'{ratio:.2f}']))
     return behind
 
 
@@ -234,6 +241,7 @@ def run(options):
         files = {each: measure_files(module, f'{folder}/cookies.txt', each) for each in (EACH, 1)}
         requests = list(clients.measure_clients(module, measure))
         behind = [*print_calls(columns), *print_strict(columns[0]), *print_files(files), *clients.print_clients(requests)]
+        behind += goroutines.print_goroutines(goroutines.measure_goroutines(folder, prefix))
         for number, times in measure_node(folder, prefix):
             behind += print_node(number, times)
     report.exit_after(behind, load)

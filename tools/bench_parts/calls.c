@@ -7,12 +7,22 @@
 #include <time.h>
 
 static char urls[HOSTS][64], headers[EACH][64];
+static char response[EACH * 64]; /* all headers */
+static size_t response_len, lens[EACH];
 static cookie_store many = COOKIE_STORE_INIT, one = COOKIE_STORE_INIT, strict = COOKIE_STORE_INIT;
 static unsigned long faults;
 
 static void set(cookie_store *store, unsigned at) {
     const char *url = urls[at / EACH % HOSTS], *header = headers[at % EACH];
     faults += cookie_store_parse(store, url, strlen(url), header, strlen(header), NOW) > COOKIE_STORE_UPDATED;
+}
+
+static void set_response(unsigned at) {
+    enum cookie_store_status statuses[EACH];
+    const char *url = urls[at % HOSTS];
+    enum cookie_store_status status =
+        cookie_store_parse_each(&many, url, strlen(url), response, response_len, lens, EACH, NOW, statuses, EACH);
+    faults += status != COOKIE_STORE_OK || statuses[EACH - 1] != COOKIE_STORE_UPDATED;
 }
 
 static void get(cookie_store *store, unsigned at) {
@@ -53,8 +63,13 @@ int main(void) {
         snprintf(urls[at], sizeof urls[at], "http://h%d.example/a/b", at);
         cookie_store_parse(&one, urls[at], strlen(urls[at]), "c0=value0; Path=/", 17, NOW);
     }
-    for (int at = 0; at < EACH; at++) snprintf(headers[at], sizeof headers[at], "c%d=value%d; Path=/; Max-Age=86400", at, at);
+    for (int at = 0; at < EACH; at++) {
+        lens[at] = (size_t)snprintf(headers[at], sizeof headers[at], "c%d=value%d; Path=/; Max-Age=86400", at, at);
+        memcpy(response + response_len, headers[at], lens[at]);
+        response_len += lens[at];
+    }
     measure("set", set_many);
+    measure("response", set_response);
     measure("set_strict", set_strict);
     measure("get_one", get_one);
     measure("get_many", get_many);

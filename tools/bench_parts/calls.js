@@ -40,16 +40,19 @@ function expectCookies(header, count) {
   if (header.split('; ').length !== count || header === '') throw new Error(`not ${count} cookies: ${header}`);
 }
 
-/** Returns the times of a jar, by its functions `set` and `get`. */
-function timesOf({ create, set, get }, number) {
+/** Returns the times of a jar, by its functions `set`, `receive` and `get`. */
+function timesOf({ create, set, receive, get }, number) {
   const hosts = Array.from({ length: number }, (_, at) => Math.floor(at / EACH));
   const cookies = hosts.map((host, at) => [`http://h${host}.example.com/a/b`, `c${at % EACH}=value${at}; Path=/; Max-Age=86400`]);
   const domains = cookies.slice(0, 1000).map(([url, value], at) => [url, `${value}; Domain=h${hosts[at]}.example.com`]);
   const paths = hosts.map((_, at) => [`http://one.example/p${at}/a`, `c=value${at}; Path=/p${at}; Max-Age=86400`]);
+  const starts = cookies.flatMap((_, at) => (at % EACH === 0 ? [at] : []));
+  const responses = starts.map((start) => [cookies[start][0], cookies.slice(start, start + EACH).map(([, value]) => value)]);
   const urls = Array.from({ length: HOSTS }, (_, at) => `http://h${at}.example.com/a/b`);
   const [many, withDomains, one] = [create(), create(), create()];
   const times = {
     set: measure(([url, value]) => set(many, url, value), cookies),
+    set_response: measure(([url, values]) => receive(many, url, values), responses),
     set_domain: measure(([url, value]) => set(withDomains, url, value), domains),
     get_many: measure((url) => get(many, url), urls),
   };
@@ -64,6 +67,7 @@ function ofJar(Jar) {
   return {
     create: () => new Jar(),
     set: (jar, url, value) => jar.setCookieSync(value, url, { now: NOW }),
+    receive: (jar, url, values) => values.forEach((value) => jar.setCookieSync(value, url, { now: NOW })),
     get: (jar, url) => jar.getCookieStringSync(url, { now: NOW }),
   };
 }
@@ -73,6 +77,7 @@ const jars = {
   CookieStore: {
     create: () => new CookieStore(),
     set: (store, url, value) => store.parse(url, value, { now: NOW }),
+    receive: (store, url, values) => store.receive(url, values, { now: NOW }),
     get: (store, url) => store.header(url, { now: NOW }),
   },
   CookieJar: ofJar(CookieJar),

@@ -9,11 +9,11 @@ def host_count(cookies, per_host):
     return max(1, cookies // per_host)
 
 
-def sets(cookies, per_host, suffix='', domain='com'):
-    """Sets `cookies` cookies, one at each host in turn until each host has `per_host`."""
+def sets(cookies, per_host, suffix='', domain='com', name='c'):
+    """Sets `cookies` cookies, one at each host in turn until each host has `per_host`. Their names begin with `name`."""
     hosts = host_count(cookies, per_host)
     return ''.join(
-        f'set http://h{number % hosts}.{domain}/ c{number // hosts}={number}{suffix}; Max-Age=86400\n'
+        f'set http://h{number % hosts}.{domain}/ {name}{number // hosts}={number}{suffix}; Max-Age=86400\n'
         for number in range(cookies))
 
 

@@ -1,8 +1,8 @@
-"""Measures cookie_jar beside the Rust crate cookie_store and Go's net/http/cookiejar, in fifteen minutes.
+"""Measures cookie_jar beside the Rust crate cookie_store and Go's net/http/cookiejar, in twenty minutes.
 Usage: tools/bench [stores] [--write [--accept] | --only PART]
 
-Prints the time of a set, a replaced cookie, a get and a removal, bytes and instructions, and how the time of
-hostile inputs grows. A peer that cannot be built is left out, and a line says so. --write runs the other commands
+Prints the time of a set, a replaced cookie, a get and a removal, of a set under a domain limit, bytes and instructions, and how
+the time of hostile inputs grows. A peer that cannot be built is left out, and a line says so. --write runs the other commands
 too, and writes docs/FIGURES.md before the first of them and after each. It appends the ratios to docs/figures.csv. If one is
 below nine tenths of the last one there of the same table, row and peer on a machine of the same kind, it prints both and
 writes nothing, unless --accept is given.
@@ -21,6 +21,8 @@ from common import ARCHIVE, stop
 
 OPTIONS = ['--program', '--archive', '--lists']
 SIZES = [(cookies, per_host) for per_host in (20, 1) for cookies in (20, 1000, 100_000)]
+LARGEST = (1_000_000, 20)  # not of removals, of which the Rust crate would make one in milliseconds
+LIMITS, LIMITED_HOSTS, FAR_LIMIT = (50, 180), 20, 100_000
 TARGET = 0.2  # seconds that a run repeats an operation
 PARTS = ['times', 'memory', 'instructions', 'hostile']
 NOTES = {
@@ -49,10 +51,14 @@ def compare(meter, measured):
         meter.compare(measured, NOW + (sets(*size) + gets(*size, 20)) * 2)
 
 
+def sizes(operation):
+    return SIZES if operation == 'set and remove' else [*SIZES, LARGEST]
+
+
 def time_operation(meter, measured, operation):
     """Microseconds by size and program name."""
     took = {}
-    for size in SIZES:
+    for size in sizes(operation):
         seconds = meter.time(measured, tasks(*size)[operation], TARGET)
         took[size] = {name: each * 1e6 for name, each in seconds.items()}
     return took
@@ -74,6 +80,24 @@ def table(title, note, first, measured, rows):
 def time_table(operation, took, measured):
     rows = [(map('{:,}'.format, size), figures) for size, figures in took.items()]
     return table(operation.capitalize(), NOTES[operation], ['cookies', 'per host'], measured, rows)
+
+
+def limit_table(meter, own):
+    """The time of a set in a store with a domain limit, beside that without."""
+    def microseconds(filling, lines, units, limit=None):
+        arguments = () if limit is None else ('--limit', str(limit))
+        return meter.time([own], repeated(filling, lines, units=units, arguments=arguments), TARGET)[own.name] * 1e6
+
+    rows = []
+    for limit in LIMITS:
+        count = LIMITED_HOSTS * limit
+        filling, others = NOW + sets(count, limit), sets(count, limit, name='d')
+        took = [microseconds('', filling + CLEAR, count), microseconds('', filling + CLEAR, count, FAR_LIMIT),
+                microseconds(filling, others + sets(count, limit), 2 * count, limit)]
+        rows.append([str(limit), *map(number, took), *(f'{each / took[0]:.2f}' for each in took[1:])])
+    note = f'''Microseconds to set a new cookie at one of {LIMITED_HOSTS} hosts with as many cookies each as the first column says:
+in a store without a limit, in one whose limit of {FAR_LIMIT:,} is far, and in one whose limit they are, so that each evicts another.'''
+    return Table('Set under a domain limit', note, ['limit', 'without', 'far', 'at it', 'far / without', 'at it / without'], rows)
 
 
 def memory_table(meter, measured):
@@ -157,6 +181,7 @@ def measure(meter, measured, parts, took):
         for operation in NOTES:
             took[operation] = time_operation(meter, measured, operation)
             yield time_table(operation, took[operation], measured)
+        yield limit_table(meter, measured[0])
     if 'memory' in parts and has_gnu_time():
         yield memory_table(meter, measured)
     if 'instructions' in parts and has_valgrind():

@@ -165,6 +165,7 @@ done
 for kind in shared static; do
     test_program test_cookie_store "$kind"
     test_program test_insert "$kind"
+    test_program test_response "$kind"
     test_program test_strict "$kind"
     test_program test_roots "$kind"
     test_program test_lists "$kind"

@@ -32,11 +32,11 @@ go_block() {
         bindings/go/README.md
 }
 
-# The README's first and third programs are parts of examples, and the second is fetch.
+# The README's programs are parts of examples, but for the second, which is fetch.
 go_quotes_are_tested() {
     local part example n
-    example=$(< bindings/go/example_test.go)
-    for n in 1 3; do
+    example=$(cat bindings/go/example_test.go bindings/go/sites/example_test.go)
+    for n in 1 3 4 5; do
         part=$(go_block go "$n" | sed 's/^./\t&/')
         [ -n "$part" ] && [[ $example = *"$part"* ]] || return 1
     done
@@ -54,13 +54,29 @@ go_readme() {
 
 go_scenario() { env -u LD_LIBRARY_PATH tools/bindings_parts/scenario.py "$temp/home/fetch/fetch"; }
 
+# go_test WORD..: tests packages. Those of sites share cookies with the installed package of Python.
+go_test() { in_go env PYTHONPATH="$lib/python3/dist-packages" go test -count=1 "$@"; }
+
+python_has_redis() {
+    local python
+    for python in python3 /usr/bin/python3; do
+        if "$python" -c 'import redis' 2> "$temp/why"; then return; fi
+    done
+    return 1
+}
+
 go_tests() {
     cp -R bindings/go "$temp/go"
     try 'Go format' go_is_formatted || true
     try 'go vet' in_go go vet ./... || true
     try 'go build without cgo' go_needs_cgo || true
-    try 'go test' in_go go test -count=1 ./... || true
-    try 'go test -race' in_go go test -race -vet=off -count=1 . || true
+    try 'go test' go_test ./... || true
+    try 'go test -race' go_test -race -vet=off . ./sites || true
+    if ! has redis-server; then
+        skips 'Go, sites in Redis' 'there is no redis-server'
+    elif ! python_has_redis; then
+        skips 'Go and Python, sites in Redis' 'no Python has the package redis'
+    fi
     try 'README.md of Go, code' go_quotes_are_tested || true
     if try 'README.md of Go, commands' go_readme; then try 'fetch of Go' go_scenario || true; fi
 }

@@ -226,6 +226,58 @@ static enum cookie_store_status make_parse(const struct call *call) {
     return status;
 }
 
+/* A response has three header values. The option is whether their lengths add up to one byte more, or there is one status less. */
+enum { VALUES = 3, TOO_LONG = 1, TOO_FEW = 2 };
+
+/* The header values, one after the other, and their lengths. */
+struct response {
+    char *values;
+    size_t length, lens[VALUES];
+};
+
+static struct response join_values(const struct call *call) {
+    struct response response = {NULL, 0, {0}};
+    for (size_t at = 0; at < VALUES; at++) {
+        const struct string *value = &call->strings[at + 1];
+        response.values = checked(realloc(response.values, response.length + value->length + 1));
+        memcpy(response.values + response.length, value->at, value->length);
+        response.length += response.lens[at] = value->length;
+    }
+    return response;
+}
+
+/* Inserts each cookie by a call of its own, unless memory ran out for it: the statuses are the same, and then the cookies. */
+static void check_each(const struct call *call, cookie_store *copy, const enum cookie_store_status *statuses) {
+    for (size_t at = 0; at < VALUES; at++) {
+        bool ran_out = statuses[at] == COOKIE_STORE_NO_MEMORY;
+        require(!ran_out || did_fail(), "a header value is out of memory, and no allocation failed");
+        require(ran_out || cookie_store_parse(copy, TEXT(0), TEXT(at + 1), call->now) == statuses[at], "a call alone has another status");
+    }
+    struct view view = look(STORE), single = look(copy);
+    require(is_same(&view, &single), "calls alone leave other cookies");
+    forget(&view);
+    forget(&single);
+}
+
+static enum cookie_store_status make_parse_each(const struct call *call) {
+    cookie_store copy = COOKIE_STORE_INIT;
+    enum cookie_store_status statuses[VALUES];
+    memset(statuses, UNTOUCHED, sizeof statuses);
+    is_counting = false;
+    struct response response = join_values(call);
+    cookie_store_clone(STORE, &copy);
+    response.lens[VALUES - 1] += call->option == TOO_LONG;
+    is_counting = true;
+    enum cookie_store_status status = cookie_store_parse_each(STORE, TEXT(0), response.values, response.length, response.lens, VALUES,
+                                                              call->now, statuses, VALUES - (call->option == TOO_FEW));
+    is_counting = false;
+    if (status == COOKIE_STORE_OK) check_each(call, &copy, statuses);
+    else require(is_untouched(statuses, 0, sizeof statuses), "it writes a status");
+    cookie_store_free(&copy);
+    free(response.values);
+    return status;
+}
+
 static enum cookie_store_status make_parse_for(const struct call *call) {
     size_t before = cookie_store_count(STORE);
     enum cookie_store_status status = cookie_store_parse_for(STORE, TEXT(0), TEXT(1), TEXT(2), call->now, (uint32_t)call->option);
@@ -375,6 +427,7 @@ static const struct {
     {"is_strict", make_is_strict, READS},
     {"set_hash_key", make_set_hash_key, READS},
     {"parse", make_parse, CHANGES},
+    {"parse_each", make_parse_each, CHANGES},
     {"parse_for", make_parse_for, CHANGES},
     {"insert", make_insert, CHANGES},
     {"header", make_header, READS},

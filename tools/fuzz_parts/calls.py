@@ -9,6 +9,7 @@ formats and lengths of buffers. In half of the calls one allocation is to fail, 
 - It writes to a buffer as much as it says, and nothing if it fails.
 - If it fails, the cookies, the limit and whether the store is strict are as before, but for a merge that is out of memory. No call
   changes a store that it is not passed, and a copy is as its original.
+- One call for all header values of a response does what a call for each does: the statuses and the cookies are the same.
 - Once the stores are freed, the library holds no memory.
 
 The calls run under valgrind, and without it plain. Without a C compiler the tool prints that it is skipped. A case that fails is
@@ -44,6 +45,7 @@ CALLS: Dict[str, Tuple[float, List[str]]] = {
     'is_strict': (0.3, []),
     'set_hash_key': (0.5, ['key']),
     'parse': (16, ['now', 'url', 'value']),
+    'parse_each': (6, ['now', 'lengths', 'url', 'value', 'value', 'value']),
     'parse_for': (4, ['now', 'request', 'url', 'page', 'value']),
     'insert': (6, ['now', 'expires', 'flags', 'same_site', 'domain', 'path', 'name', 'content']),
     'header': (3, ['now', 'room', 'url']),
@@ -71,6 +73,7 @@ NUMBERS_OF: Dict[str, Tuple[List[int], List[int]]] = {
     'flag': ([0, 1], [0, 1]),
     'limit': ([2, 3, 5, 1000], [0, 1, 2**64 - 1]),
     'shards': ([1, 2, 16], [0, 3, 2**32 - 1]),
+    'lengths': ([0], [1, 2]),
     'request': ([0, 1, 2, 3], [4, 2**32 - 1]),
     'format': ([0, 1, 2, 3], [4, 2**32 - 1]),
     'which': ([0, 0, 1, 2], [3, 2**32 - 1]),
@@ -79,7 +82,8 @@ NUMBERS_OF: Dict[str, Tuple[List[int], List[int]]] = {
     'same_site': ([0, 1, 2, 3], [4, 2**32 - 1]),
 }
 # Those that are another number of a call than their name says.
-NUMBER_OF = {**dict.fromkeys(('flag', 'limit', 'shards', 'request', 'format', 'same_site'), 'option'), 'expires': 'which', 'flags': 'items'}
+NUMBER_OF = {**dict.fromkeys(('flag', 'limit', 'shards', 'lengths', 'request', 'format', 'same_site'), 'option'),
+             'expires': 'which', 'flags': 'items'}
 CONTENTS, ODD_CONTENTS = ['1', ''], ['a=1', 'v' * 4096, 'x\ty', 'x;y', ' x', 'k\u00fc']
 HOSTS, PATHS, NAMES = ['a.com', 'b.a.com', 'localhost', 'example.com'], ['/', '/a'], ['a', 'b', 'c', 's', 'h']
 VALUES = ['a=1', 'b=2; Path=/', 'c=3; Domain=a.com; Max-Age=60', 's=4; Secure', 'h=5; HttpOnly', 'a=; Max-Age=0', 'l=6; SameSite=Lax',

@@ -1,6 +1,6 @@
 'use strict';
 const { CONTROL } = require('./cookie');
-const { isRejection } = require('./errors');
+const { CookieStoreError, isRejection } = require('./errors');
 
 const NOT_ASCII = /[^\0-\x7f]/;
 const WIDE = /[^\0-\xff]/;
@@ -58,12 +58,19 @@ class Messages {
     return pairs.filter((pair) => !CONTROL.test(pair)).join('; ');
   }
 
-  /** Inserts the cookies of Set-Cookie headers, which are strings or bytes. */
+  /** Inserts the cookies of Set-Cookie headers, which are strings or bytes in an array. */
   receive(url, values) {
-    for (const value of values) {
-      const { result, code = result } = attempt(() => this.#store.parse(url, value));
-      if (NOT_VALID.includes(code) || isRejection(code)) this.#drop(url, nameOf(value), code);
-    }
+    if (values.length === 0) return;
+    const codes = attempt(() => this.#store.receive(url, values)).result ?? this.#reasons(url, values);
+    if (codes.includes('NO_MEMORY')) throw new CookieStoreError('NO_MEMORY');
+    codes.forEach((code, at) => {
+      if (NOT_VALID.includes(code) || isRejection(code)) this.#drop(url, nameOf(values[at]), code);
+    });
+  }
+
+  /** Returns why none is inserted: the URL is not valid, or the header value is not UTF-8. */
+  #reasons(url, values) {
+    return values.map((value) => attempt(() => this.#store.parse(url, value)).code);
   }
 
   #drop(url, name, code) {

@@ -16,6 +16,9 @@ const SAME_SITES = [null, 'Strict', 'Lax', 'None'];
 
 const FIELDS = 6; // of a cookie, as the addon returns them
 
+// Of a header value, which receive() returns. Other codes are of the whole call.
+const OF_VALUE = ['NOT_UTF8', 'NO_MEMORY'];
+
 /** Returns a time in seconds: the current one for undefined. What is not a time is left to the addon. */
 function secondsOf(now) {
   if (now === undefined) return Date.now() / 1000;
@@ -53,6 +56,23 @@ function cookiesOf(fields) {
     };
   }
   return cookies;
+}
+
+/** Returns the header values of a response in an array. */
+function valuesOf(values) {
+  const isOne = typeof values === 'string' || values instanceof Uint8Array;
+  if (isOne || typeof values[Symbol.iterator] !== 'function') throw typeError('values must be an array of header values');
+  return [...values];
+}
+
+/** Calls parse() for a header value. Returns its result, or the code of its error. */
+function codeFrom(parse) {
+  try {
+    return parse();
+  } catch (error) {
+    if (!OF_VALUE.includes(error.code)) throw error;
+    return error.code;
+  }
 }
 
 /** Returns a flag as a number. */
@@ -143,6 +163,13 @@ class CookieStore {
     const page = options?.page;
     if (page === undefined) return codeOf(this.#store.parse(hrefOf(url), value, secondsOf(options?.now)));
     return codeOf(this.#store.parseFor(hrefOf(url), hrefOf(page), value, secondsOf(options.now), flagsOf(options)));
+  }
+
+  receive(url, values, options) {
+    const all = valuesOf(values ?? []);
+    const isSubclass = this.parse !== CookieStore.prototype.parse; // it decides about each value
+    if (isSubclass) return all.map((value) => codeFrom(() => this.parse(url, value, options)));
+    return this.#store.parseEach(hrefOf(url), all, secondsOf(options?.now)).map(codeOf);
   }
 
   insert({ name, value, domain, path = '/', hostOnly = false, hasPath = true, secure = false, httpOnly = false,

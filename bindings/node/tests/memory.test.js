@@ -43,6 +43,9 @@ test('a million calls leave no memory behind', async () => {
   // A leak of what a call allocates would be more than the 20 MB by which a process may grow without one.
   const rows = [
     ['parse', 250000, (at) => few.parse(URL_A, `a=${at}`)],
+    ['receive', 100000, (at) => few.receive(URL_A, [`a=${at}`, 'b', `c=${at}`])],
+    ['receive of many', 3000, () => many.receive(URL_A, new Array(30).fill(long))],
+    ['receive, an error', 100000, () => outcome(() => few.receive(URL_A, ['a=1', 1]))],
     ['header', 250000, () => few.header(URL_A)],
     ['an error', 100000, () => outcome(() => few.header('x'))],
     ['a TypeError', 100000, () => outcome(() => few.parse(URL_A))],

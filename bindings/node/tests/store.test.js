@@ -39,6 +39,51 @@ test('parse returns what happens to a cookie', () => {
   ], (url, value) => store.parse(url, value, { now: NOW }));
 });
 
+test('receive returns what happens to each cookie of a response', () => {
+  const values = ['a=1', 'b', 'a=2; Path=/x', Buffer.from('c=\xff', 'latin1'), Buffer.from('d=3'), 'e=4; Domain=b.example', 'a=; Max-Age=0'];
+  const codes = ['INSERTED', 'PARSE', 'UPDATED', 'NOT_UTF8', 'INSERTED', 'DOMAIN_MISMATCH', 'EXPIRED_EXISTING'];
+  const store = new CookieStore();
+  assert.deepEqual(store.receive(URL_A, values, { now: NOW }), codes);
+  assert.equal(store.header(URL_A, { now: NOW }), 'd=3');
+  const single = new CookieStore();
+  for (const value of values) outcome(() => single.parse(URL_A, value, { now: NOW }));
+  assert.deepEqual(store.cookies(), single.cookies());
+  const many = Array.from({ length: 100 }, (_, at) => `n${at}=${'v'.repeat(at * 40)}`);
+  assert.deepEqual(store.receive(new URL('https://b.example/'), new Set(many), { now: NOW }), many.map(() => 'INSERTED'));
+  assert.equal(store.header('https://b.example/', { now: NOW }), many.join('; '));
+});
+
+test('receive takes an array of header values', () => {
+  const store = new CookieStore();
+  compare([
+    [URL_A, [], '[]'],
+    [URL_A, undefined, '[]'],
+    [URL_A, null, '[]'],
+    [new URL(URL_A), new Set(['a=1']), '["INSERTED"]'],
+    ['http://a\\@b/', ['a=1'], 'BAD_URL'],
+    [URL_A, 'a=1', 'ERR_INVALID_ARG_TYPE'],
+    [URL_A, Buffer.from('a=1'), 'ERR_INVALID_ARG_TYPE'],
+    [URL_A, {}, 'ERR_INVALID_ARG_TYPE'],
+    [URL_A, 1, 'ERR_INVALID_ARG_TYPE'],
+    [URL_A, ['b=1', 1], 'ERR_INVALID_ARG_TYPE'],
+  ], (url, values) => JSON.stringify(store.receive(url, values, { now: NOW })));
+  assert.equal(outcome(() => store.receive(URL_A, ['b=1'], { now: NaN })), 'BAD_TIME');
+  assert.equal(store.size, 1);
+  store.close();
+  assert.equal(outcome(() => store.receive(URL_A, ['a=1'])), 'NO_STORE');
+});
+
+test('receive calls parse of a subclass', () => {
+  class OneCookie extends CookieStore {
+    parse(url, value, options) {
+      return this.size === 0 ? super.parse(url, value, options) : 'SECURE_LIMIT';
+    }
+  }
+  const store = new OneCookie();
+  assert.deepEqual(store.receive(URL_A, [Buffer.from([0xff]), 'b=2', 'c=3']), ['NOT_UTF8', 'INSERTED', 'SECURE_LIMIT']);
+  assert.equal(outcome(() => new OneCookie().receive('', ['a=1'])), 'BAD_URL');
+});
+
 test('insert returns what happens to a cookie', () => {
   const parts = { name: 'a', value: '1', domain: 'a.example' };
   const rows = [

@@ -6,6 +6,7 @@ import {
 
 const store = new CookieStore({ suffixList: new Uint8Array(), onlyListed: true, domainLimit: 1, strict: true });
 const status: string = store.parse({ href: 'http://a.example/' }, 'a=1', { now: new Date() });
+const received: string[] = store.receive('http://a.example/', ['a=1', new Uint8Array()], { now: 0 }).concat(store.receive('', undefined));
 const isNew: boolean = store.insert({ name: 'a', value: '1', domain: 'a.example', expires: new Date(), sameSite: 'Lax' }) === 'INSERTED';
 const header: string | null = store.header('http://a.example/', { now: 0, sameSite: false, topLevel: true, laxByDefault: false });
 const response: string = store.parse('http://a.example/', 'a=1', { page: 'http://b.example/', topLevel: true, laxByDefault: false });
@@ -45,9 +46,11 @@ store.save({ format: 'xml' });
 store.insert({ name: 'a', value: '1' });
 // @ts-expect-error: a value is a string or bytes
 store.parse('http://a.example/', 1);
+// @ts-expect-error: header values are an array
+store.receive('http://a.example/', 1);
 // @ts-expect-error: a Store of tough-cookie is not one
 new CookieJar({ findCookie() {} });
 // @ts-expect-error: it takes what the fetch takes
 get(1);
 
-void [header, isNew, counts, shardOfUrl, isRemoved, length, useJar, statusText('PARSE')];
+void [header, received, isNew, counts, shardOfUrl, isRemoved, length, useJar, statusText('PARSE')];

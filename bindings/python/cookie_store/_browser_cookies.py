@@ -47,7 +47,8 @@ def _readable(cookies: Iterable[Mapping[str, Any]], expiry: str) -> Iterator[Coo
         try:
             cookie = _cookie_of(fields, fields.get(expiry))
             _check(cookie, now)
-            reason = 'it is of a partition or another container' if fields.get('partitionKey') else ''
+            is_partitioned = fields.get('partitionKey') not in (None, '', 0)
+            reason = 'it is of a partition or another container' if is_partitioned else ''
         except CookieStoreError as error:
             reason = str(error)
         if reason:
@@ -64,7 +65,7 @@ def _cookie_of(fields: Mapping[str, Any], expiry: Any) -> Cookie:
     domain, path, name, value = strings
     secure, same_site = bool(fields.get('secure')), _SAME_SITES.get(str(fields.get('sameSite') or '').lower())
     return Cookie(
-        domain.lstrip('.').lower(), path, name, value, _seconds(expiry),
+        domain[domain.startswith('.'):].lower(), path, name, value, _seconds(expiry),
         host_only=bool(fields.get('hostOnly', not domain.startswith('.'))), has_path=True, secure=secure,
         http_only=bool(fields.get('httpOnly')), same_site=None if same_site == 'None' and not secure else same_site)
 
@@ -82,7 +83,7 @@ def _check(cookie: Cookie, now: int) -> None:
     """Raise EXPIRED, BAD_URL or PARSE if the cookie has expired, has no valid domain, or cannot be in a list as it is."""
     if cookie.expires is not None and cookie.expires <= now:
         raise CookieStoreError(Status.EXPIRED)
-    if not (cookie.domain and cookie.domain.isascii()):
+    if cookie.domain[:1] in ('', '.') or not cookie.domain.isascii():
         raise CookieStoreError(Status.BAD_URL)
     is_trimmed = cookie.name == cookie.name.strip() and cookie.value == cookie.value.strip()
     if not (is_trimmed and _NAME.fullmatch(cookie.name) and _VALUE.fullmatch(cookie.value) and _PATH.fullmatch(cookie.path)):

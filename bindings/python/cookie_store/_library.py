@@ -50,6 +50,8 @@ SIGNATURES: Dict[str, Tuple[Any, List[Any]]] = {
     'cookie_store_is_strict': (ctypes.c_bool, [_AT]),
     'cookie_store_set_hash_key': (_NUMBER, [_AT, *_TEXT]),
     'cookie_store_parse': (_NUMBER, [_AT, *_TEXT, *_TEXT, ctypes.c_int64]),
+    'cookie_store_parse_each': (_NUMBER, [_AT, *_TEXT, *_TEXT, _LENGTH, ctypes.c_size_t, ctypes.c_int64, ctypes.POINTER(ctypes.c_uint32),
+                                          ctypes.c_size_t]),
     'cookie_store_parse_for': (_NUMBER, [_AT, *_TEXT, *_TEXT, *_TEXT, ctypes.c_int64, _NUMBER]),
     'cookie_store_insert': (_NUMBER, [_AT, *_TEXT, *_TEXT, *_TEXT, *_TEXT, ctypes.POINTER(Row), ctypes.c_int64]),
     'cookie_store_header': (_NUMBER, [_AT, *_TEXT, ctypes.c_int64, *_OUT, _LENGTH]),

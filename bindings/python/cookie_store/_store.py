@@ -143,26 +143,37 @@ class CookieStore(SavedStore):
                 log_not_stored(host, name_of(header_value), text_of(Status(number)))
         return count
 
-    def _parse_all(self, url: Text, header_values: Iterable[Text], now: Optional[Time]) -> Iterator[Tuple[Text, int]]:
-        """Parse header values as parse() does, and yield each one with the number of its status. All are received at one time.
+    def _parse_all(self, url: Text, header_values: Iterable[Text], now: Optional[Time]) -> Iterable[Tuple[Text, int]]:
+        """Parse header values as parse() does, in one call, and return each one with the number of its status.
 
         BAD_URL and NOT_UTF8 are statuses too, and not raised.
         """
         if type(self).parse is not CookieStore.parse:
-            yield from self._parse_each(url, header_values, now)
-            return
-        page, seconds = bytes_of(url), seconds_of(now)
-        for value in header_values:
-            cookie = value if isinstance(value, bytes) else bytes_of(value)
-            with self._lock:
-                self._cookies = None
-                number = LIBRARY.cookie_store_parse(self._store, page, len(page), cookie, len(cookie), seconds)
+            return self._parse_each(url, header_values, now)
+        values = list(header_values)
+        if not values:
+            return ()
+        number, statuses = self._parse_response(bytes_of(url), [bytes_of(value) for value in values], seconds_of(now))
+        if number in NOT_VALID:
+            return self._parse_each(url, values, now)  # a header value that is not UTF-8 has that status
+        check(number)
+        for number in statuses:
             if number >= 20 and not is_reply(number) and number not in NOT_VALID:
                 check(number)
-            yield value, number
+        return zip(values, statuses)
+
+    def _parse_response(self, url: bytes, values: List[bytes], seconds: int) -> Tuple[int, List[int]]:
+        """Parse header values, and return the status of the call and those of the values."""
+        joined, count = b''.join(values), len(values)
+        lengths, statuses = (ctypes.c_size_t * count)(*map(len, values)), (ctypes.c_uint32 * count)()
+        with self._lock:
+            self._cookies = None
+            number = LIBRARY.cookie_store_parse_each(self._store, url, len(url), joined, len(joined), lengths, count, seconds, statuses,
+                                                     count)
+        return number, statuses[:]
 
     def _parse_each(self, url: Text, header_values: Iterable[Text], now: Optional[Time]) -> Iterator[Tuple[Text, int]]:
-        """Yield what _parse_all() yields, by calls of the method parse() of a subclass."""
+        """Yield what _parse_all() returns, by calls of the method parse(), which may be that of a subclass."""
         for header_value in header_values:
             try:
                 status = self.parse(url, header_value, now)

@@ -18,9 +18,11 @@ class DeclarationTests(unittest.TestCase):
     """cookie_store.h agrees with the module, and with the proved functions."""
 
     TYPES = {'cookie_store *': ctypes.POINTER(Store), 'cookie_store_row *': ctypes.POINTER(Row),
-             'const cookie_store_row *': ctypes.POINTER(Row), 'const char *': ctypes.c_char_p, 'char *': ctypes.POINTER(ctypes.c_char), 'size_t': ctypes.c_size_t,
-             'size_t *': ctypes.POINTER(ctypes.c_size_t), 'int64_t': ctypes.c_int64, 'bool': ctypes.c_bool,
+             'const cookie_store_row *': ctypes.POINTER(Row), 'const char *': ctypes.c_char_p,
+             'char *': ctypes.POINTER(ctypes.c_char), 'size_t': ctypes.c_size_t, 'size_t *': ctypes.POINTER(ctypes.c_size_t),
+             'const size_t *': ctypes.POINTER(ctypes.c_size_t), 'int64_t': ctypes.c_int64, 'bool': ctypes.c_bool,
              'void *': ctypes.c_void_p, 'void': None, 'uint32_t': ctypes.c_uint32, 'uint32_t *': ctypes.POINTER(ctypes.c_uint32),
+             'enum cookie_store_status *': ctypes.POINTER(ctypes.c_uint32),
              **{f'enum cookie_store_{name}': ctypes.c_uint32 for name in ('status', 'same_site', 'format', 'which')}}
 
     def setUp(self):
@@ -74,7 +76,8 @@ class DeclarationTests(unittest.TestCase):
     # The C types of each Rattle type. C functions have no parameter for the allocator.
     IN_C = {'Global': [], '&mut StoreHandle': ['cookie_store *'], '&[u8]': ['const char *', 'size_t'],
             '&mut [u8]': ['char *', 'size_t'], '&mut [CookieRow]': ['cookie_store_row *', 'size_t'],
-            '&mut [usize]': ['size_t *', 'size_t'], '&CookieRow': ['const cookie_store_row *'],
+            '&mut [usize]': ['size_t *', 'size_t'], '&[usize]': ['const size_t *', 'size_t'],
+            '&mut [u32]': ['enum cookie_store_status *', 'size_t'], '&CookieRow': ['const cookie_store_row *'],
             '&mut usize': ['size_t *'], '&mut u32': ['uint32_t *'], 'usize': ['size_t'], 'i64': ['int64_t'],
             'bool': ['bool'], 'u8': ['bool'], 'u32': ['uint32_t'], '': ['void']}
 

@@ -50,7 +50,7 @@ pub enum Error {
     NoMemory,
     /// The URL is not valid, or parsers read different hosts from it.
     BadUrl,
-    /// A string is not UTF-8. The methods of this crate take `&str`: only what reads files and headers
+    /// A string is not UTF-8. Most methods of this crate take `&str`: only what reads files and headers
     /// returns it.
     NotUtf8,
     /// The time is not in the years -9999 to 9999.

@@ -18,7 +18,7 @@ use crate::{Cookie, Error};
 /// [`CookieStore::set_suffix_file`].
 pub const SYSTEM_SUFFIX_FILE: &str = "/usr/share/publicsuffix/public_suffix_list.dat";
 
-/// What [`CookieStore::parse`], [`CookieStore::parse_for`] or [`CookieStore::insert`] did.
+/// What [`CookieStore::parse`] or another call that inserts a cookie did.
 #[derive(Clone, Copy, Debug, PartialEq, Eq)]
 pub enum StoreAction {
     /// The cookie was inserted: none with its domain, path and name was stored.
@@ -293,6 +293,57 @@ impl CookieStore {
             )
         };
         StoreAction::of(status)
+    }
+
+    /// Inserts the cookies of all `Set-Cookie` header values of a response received from `url` at `now`,
+    /// in order, and parses the URL once.
+    ///
+    /// Returns for each header value what [`parse`](CookieStore::parse) returns, or [`Error::NotUtf8`].
+    ///
+    /// ```
+    /// use pulleymaroon::{CookieStore, Error, StoreAction};
+    /// use std::time::SystemTime;
+    ///
+    /// let mut store = CookieStore::new()?;
+    /// let values = ["a=1", "b=2; Domain=other.example"];
+    /// let received = store.receive(values, "http://example.com/", SystemTime::now())?;
+    /// assert_eq!(received, [Ok(StoreAction::Inserted), Err(Error::DomainMismatch)]);
+    /// # Ok::<(), Error>(())
+    /// ```
+    ///
+    /// # Errors
+    ///
+    /// [`Error::BadTime`], [`Error::BadUrl`], [`Error::NoMemory`].
+    pub fn receive<V: AsRef<[u8]>>(
+        &mut self,
+        set_cookies: impl IntoIterator<Item = V>,
+        url: &str,
+        now: SystemTime,
+    ) -> Result<Vec<Result<StoreAction, Error>>, Error> {
+        let (mut values, mut lens) = (Vec::new(), Vec::new());
+        for value in set_cookies {
+            let value = value.as_ref();
+            values.extend_from_slice(value);
+            lens.push(value.len());
+        }
+        let mut statuses = vec![sys::COOKIE_STORE_OK; lens.len()];
+        // SAFETY: see `CookieStore`.
+        let status = unsafe {
+            sys::cookie_store_parse_each(
+                self.handle(),
+                url.as_ptr().cast(),
+                url.len(),
+                values.as_ptr().cast(),
+                values.len(),
+                lens.as_ptr(),
+                lens.len(),
+                seconds(now),
+                statuses.as_mut_ptr(),
+                statuses.len(),
+            )
+        };
+        check(status, 0)?;
+        Ok(statuses.into_iter().map(StoreAction::of).collect())
     }
 
     /// Parses a `Set-Cookie` header value of the response to a request that a page made for `url`, and

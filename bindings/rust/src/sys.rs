@@ -135,6 +135,18 @@ extern "C" {
         value_len: usize,
         now: i64,
     ) -> cookie_store_status;
+    pub fn cookie_store_parse_each(
+        store: *mut cookie_store,
+        url: *const c_char,
+        url_len: usize,
+        values: *const c_char,
+        values_len: usize,
+        lens: *const usize,
+        lens_len: usize,
+        now: i64,
+        statuses: *mut cookie_store_status,
+        statuses_len: usize,
+    ) -> cookie_store_status;
     pub fn cookie_store_parse_for(
         store: *mut cookie_store,
         url: *const c_char,

@@ -6,6 +6,7 @@ ghost use Rattle.cookie_parts.specs.Cookie.{Row};
 ghost use Rattle.cookie_laws.specs.Contents.{retained, unexpired, ReturnsTest};
 ghost use Rattle.cookie_laws.specs.Rows.{key_at};
 ghost use Rattle.cookie_laws.specs.Runs.{step, Clear, Remove, Removed};
+ghost use Rattle.cookie_rows.specs.Retained.{has_other_domain};
 
 use crate::CookieStore;
 use cookie_laws::preserved_by_calls;
@@ -24,6 +25,17 @@ impl CookieStore {
         // for the checker: what the index says of the rows, it says of the remaining ones
         preserved_by_calls();
         self.rows.remove(domain, path, name)
+    }
+
+    /// Removes the cookies of this domain, expired or not, and returns how many.
+    ///
+    /// The others keep their order. Allocates nothing, and takes no more time in a store with cookies
+    /// of more domains.
+    pub fn remove_domain(&mut self, domain: &str) -> usize
+        ensures store { self.new ≡ retained (has_other_domain domain.now) self.old }
+        ensures removed { result + length self.new.rows ≡ length self.old.rows }
+    {
+        self.rows.remove_domain(domain)
     }
 
     /// Removes the cookies that have expired at `now`, RFC 6265 5.3, and returns how many.

@@ -35,6 +35,7 @@ pub mod Places
 pub mod Positions
 pub mod RankOrder
 pub mod RemovedAt
+pub mod RemovedDomain
 pub mod Results
 pub mod RetainedGroups
 pub mod RetainedItems

@@ -137,7 +137,7 @@ count_all domains es are =
     ap (λ ds. length (joined (map in_order (all_stored ds)))) are ∙ sym (length-map (joined (map in_order (all_stored (values_of es)))) (λ (x : Item). x.row)) ∙ ap length (joined_is es)
 
 -- of a domain
-count_paths : (ps : ItemPaths) → length (items_in_paths ps) ≡ length (flat_paths (bare_paths ps))
+pub count_paths : (ps : ItemPaths) → length (items_in_paths ps) ≡ length (flat_paths (bare_paths ps))
 count_paths [] = refl
 count_paths (p ∷ ps) =
     omega (arith, length-append p.1 (items_in_paths ps), length-append (rows_of p.1) (flat_paths (bare_paths ps)), length-map p.1 (λ (x : Item). x.row), count_paths ps)

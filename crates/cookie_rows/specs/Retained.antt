@@ -1,9 +1,14 @@
 -- The rows that remain if those for which a closure returns false are removed.
-use Rattle.std.specs.Prelude.{◌≡◌, ℕ, Bool, List, [], ◌∷◌, if◌then◌else◌}
+use Rattle.std.specs.Prelude.{◌≡◌, ℕ, Bool, not, List, [], ◌∷◌, bytes_eq, if◌then◌else◌}
 use denote.Ref.{Bor}
 use Rattle.cookie_parts.specs.Cookie.{Row}
+use Rattle.cookie_parts.specs.Domain.{domain_text}
 use Rattle.cookie_rows.specs.GroupChanges.{unless_empty}
 use Rattle.cookie_rows.specs.Items.{Item, ItemGroups, ItemPaths}
+
+-- the row has another domain
+abbrev pub has_other_domain : List ℕ → Row → Bool
+has_other_domain domain row = not (bytes_eq domain (domain_text row.domain))
 
 -- a call of the closure with the row and its number may have this result
 abbrev pub ReturnsFor : (Bor Row → ℕ → Bool → Type 0) → Item → Bool → Type 0

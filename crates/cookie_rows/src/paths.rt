@@ -235,7 +235,7 @@ impl Paths {
     }
 
     // How many rows can be added so that there are at most `limit`. `None` if there are more now.
-    fn room(&self, limit: usize) -> Option<usize>
+    pub(crate) fn room(&self, limit: usize) -> Option<usize>
         ensures room { IfSome result (λ room. length (items_in_paths (paths_in_order self.now)) + room ≡ limit) }
         ensures none { IfNone result (limit < length (items_in_paths (paths_in_order self.now))) }
     {

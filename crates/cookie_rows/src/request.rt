@@ -1,13 +1,55 @@
-//! Iterators over the cookies of a request.
-ghost use Rattle.std.specs.Prelude.{◌≡◌, map, ℕ, List};
-ghost use Rattle.cookie_rows.specs.RequestCookies.{name_and_value};
+//! The cookies of a request, and iterators over them.
+ghost use Rattle.std.specs.Prelude.{◌≡◌, ◌≢◌, [], map, ℕ, IfOk, List, OnErr};
 ghost use Rattle.std.specs.Vec.Iter.{into_iter_items};
+ghost use Rattle.cookie_words.specs.Moments.{moment_of};
 ghost use Rattle.cookie_raw.specs.Raw.{Raw};
+ghost use Rattle.cookie_laws.specs.Given.{given};
+ghost use Rattle.cookie_rows.specs.RequestCookies.{name_and_value};
 
+use crate::rows::Rows;
 use cookie_parts::Cookie;
 use cookie_raw::RawCookie;
+use jiff::civil::DateTime;
+use std::alloc::{AllocError, Global};
 use std::marker::Model;
 use std::vec::IntoIter;
+use url::Url;
+
+impl Rows {
+    /// Returns the names and values of the rows given for `url` at `now`, in order.
+    ///
+    /// # Errors
+    ///
+    /// `AllocError`: out of memory, only if at least one row is given.
+    pub fn request_values(
+        &self,
+        alloc: Global,
+        url: &Url,
+        now: DateTime,
+    ) -> Result<RequestValues<'_>, AllocError>
+        ensures values { IfOk result (λ values. values ≡ map name_and_value (given url.now (moment_of now) self.now.rows)) }
+        ensures memory { OnErr result (given url.now (moment_of now) self.now.rows ≢ []) }
+    {
+        Ok(RequestValues::new(self.given(alloc, url, now)?))
+    }
+
+    /// Returns the raw cookies of the rows given for `url` at `now`, in order.
+    ///
+    /// # Errors
+    ///
+    /// `AllocError`: out of memory, only if at least one row is given.
+    pub fn request_cookies(
+        &self,
+        alloc: Global,
+        url: &Url,
+        now: DateTime,
+    ) -> Result<RequestCookies<'_>, AllocError>
+        ensures cookies { IfOk result (λ cookies. cookies ≡ map (λ row. row.raw) (given url.now (moment_of now) self.now.rows)) }
+        ensures memory { OnErr result (given url.now (moment_of now) self.now.rows ≢ []) }
+    {
+        Ok(RequestCookies::new(self.given(alloc, url, now)?))
+    }
+}
 
 /// An iterator over the names and values of the cookies of a request, in the order of the store.
 #[derive(Drop)]

@@ -14,8 +14,8 @@ ghost use Rattle.cookie_lookup.specs.SearchView.{domains_found, paths_found};
 ghost use Rattle.cookie_lookup.specs.Candidates.{most_domains, most_paths};
 ghost use Rattle.cookie_rows.specs.Building.{Builds, FailsFirst, IsNewRow, TakesCookie, ReachesNewRow};
 ghost use Rattle.cookie_rows.specs.Eviction.{with_inserted, HasRoom};
-ghost use Rattle.cookie_rows.specs.RequestCookies.{name_and_value};
 ghost use Rattle.cookie_rows.specs.Items.{AreItems, groups_in_order};
+ghost use Rattle.cookie_rows.specs.Retained.{has_other_domain};
 ghost use Rattle.cookie_rows.specs.Stored.{domains_in};
 
 use crate::boxed::BoxedCookie;
@@ -31,7 +31,6 @@ use crate::header_order::in_header_order;
 use crate::iter::{IterAny, IterUnexpired, count_rows};
 use crate::map_search::searched;
 use crate::paths::Paths;
-use crate::request::{RequestCookies, RequestValues};
 use crate::secure_keys::Scope;
 use crate::secure_rows;
 use cookie_lookup::Lookups;
@@ -215,40 +214,6 @@ impl Rows {
         in_header_order(&self.groups, alloc, url, now)
     }
 
-    /// Returns the names and values of the rows given for `url` at `now`, in order.
-    ///
-    /// # Errors
-    ///
-    /// `AllocError`: out of memory, only if at least one row is given.
-    pub fn request_values(
-        &self,
-        alloc: Global,
-        url: &Url,
-        now: DateTime,
-    ) -> Result<RequestValues<'_>, AllocError>
-        ensures values { IfOk result (λ values. values ≡ map name_and_value (given url.now (moment_of now) self.now.rows)) }
-        ensures memory { OnErr result (given url.now (moment_of now) self.now.rows ≢ []) }
-    {
-        Ok(RequestValues::new(self.given(alloc, url, now)?))
-    }
-
-    /// Returns the raw cookies of the rows given for `url` at `now`, in order.
-    ///
-    /// # Errors
-    ///
-    /// `AllocError`: out of memory, only if at least one row is given.
-    pub fn request_cookies(
-        &self,
-        alloc: Global,
-        url: &Url,
-        now: DateTime,
-    ) -> Result<RequestCookies<'_>, AllocError>
-        ensures cookies { IfOk result (λ cookies. cookies ≡ map (λ row. row.raw) (given url.now (moment_of now) self.now.rows)) }
-        ensures memory { OnErr result (given url.now (moment_of now) self.now.rows ≢ []) }
-    {
-        Ok(RequestCookies::new(self.given(alloc, url, now)?))
-    }
-
     /// Replaces the row of the cookie's domain, path and name, which keeps its position and its
     /// place in creation order.
     pub fn replace(&mut self, cookie: Cookie<'static>)
@@ -403,6 +368,22 @@ impl Rows {
             self.len -= 1;
         }
         removed
+    }
+
+    /// Removes the rows of this domain, and returns how many. The others keep their order. Allocates
+    /// nothing.
+    pub fn remove_domain(&mut self, domain: &str) -> usize
+        ensures rows { self.new ≡ rows_in_order (retained (has_other_domain domain.now) (contents_of self.old None None)) }
+        ensures removed { result + length self.new.rows ≡ length self.old.rows }
+    {
+        let before = self.len;
+        let Some(paths) = self.groups.get(domain) else {
+            return 0;
+        };
+        // of all rows as many are left as there is room for
+        self.len = paths.room(before).unwrap_or(0);
+        self.groups.remove(domain);
+        before - self.len
     }
 
     /// Removes the rows that have expired at `now`, RFC 6265 5.3, and returns how many. The others

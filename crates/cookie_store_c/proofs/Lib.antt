@@ -4,6 +4,7 @@ mod LoadOutcomes
 mod LoadReports
 mod Passing
 mod RequestRows
+mod Responses
 mod Seconds
 mod StoreBox
 mod StoreGlue

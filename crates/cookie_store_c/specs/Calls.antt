@@ -1,18 +1,18 @@
 -- What each call returns, and the store after it.
-use Rattle.std.specs.Prelude.{◌≡◌, ◌==◌, if◌then◌else◌, ◌⊎◌, ℕ, Bool, true, false, not, List, [], bytes_eq, length, Option, Some, None, unwrap_or, Result, Ok, Err}
+use Rattle.std.specs.Prelude.{◌≡◌, ◌==◌, if◌then◌else◌, ◌⊎◌, ℕ, Bool, true, false, not, List, [], length, Option, Some, None, unwrap_or, Result, Ok, Err, IsOk, ℤ}
 use Rattle.std.specs.Result.{result_map_both}
 use Rattle.url.specs.Parts.{Parts}
 use Rattle.cookie_words.specs.Moments.{Moment}
 use Rattle.cookie_psl.specs.Rules.{RuleList, SameRules}
 use Rattle.cookie_parts.specs.Cookie.{Row}
-use Rattle.cookie_parts.specs.Domain.{domain_text}
 use Rattle.cookie_inputs.specs.Suffixes.{suffixes_from, with_default}
 use Rattle.cookie_inputs.specs.declared.suffixes.SuffixesError.{SuffixesError}
 use Rattle.cookie_inputs.specs.declared.suffixes.SuffixesError.TheVariants as SuffixesCase
 use Rattle.cookie_laws.specs.Contents.{Contents, retained, unexpired}
 use Rattle.cookie_laws.specs.Runs.{Call, step}
+use Rattle.cookie_rows.specs.Retained.{has_other_domain}
 use Rattle.cookie_store_c.specs.Headers.{from_page}
-use Rattle.cookie_store_c.specs.Inputs.{text_in}
+use Rattle.cookie_store_c.specs.Inputs.{set_call, text_and_time, text_in}
 use Rattle.cookie_strict.specs.StrictRuns.{response_call, store_after_call, strict_call}
 use Rattle.cookie_strict.specs.declared.context.Context.{Context}
 use Rattle.cookie_strict.specs.declared.error.StrictError.{StrictError}
@@ -107,10 +107,6 @@ abbrev pub limit_of : Option Contents → ℕ
 limit_of None = 0
 limit_of (Some store) = unwrap_or store.limit 0
 
--- the cookie has another domain
-abbrev pub has_other_domain : List ℕ → Row → Bool
-has_other_domain domain row = not (bytes_eq (domain_text row.domain) domain)
-
 -- the cookies of the domain are removed, unless it is not UTF-8
 abbrev pub domain_outcome : Result (List ℕ) Status → Option Contents → CallOutcome
 domain_outcome domain None = error_outcome None NoStore
@@ -131,6 +127,11 @@ RunsOut MayAllocate old status new = (status ≡ NoMemory) × MayAllocate × (ne
 abbrev pub HasOutcome : CallOutcome → Type 0 → Option Contents → Status → Option Contents → Type 0
 HasOutcome outcome MayAllocate old status new =
     (record { status = status; store = new } ≡ outcome) ⊎ RunsOut MayAllocate old status new
+
+-- the cookie of a header value received from a URL is inserted, or memory ran out
+abbrev pub ParsesValue : Bool → List ℕ → ℤ → List ℕ → Contents → Status → Contents → Type 0
+ParsesValue is_strict url now value old status new =
+    HasOutcome (insertion_outcome is_strict old (set_call url value now)) (IsOk (text_in value) × IsOk (text_and_time url now)) (Some old) status (Some new)
 
 -- the status of the error of a list, and its malformed line
 abbrev pub suffixes_error_status : SuffixesError → Status × ℕ

@@ -9,7 +9,8 @@ use Rattle.cookie_parts.specs.Cookie.{Row, is_http_only, is_persistent, is_secur
 use Rattle.cookie_parts.specs.Domain.{DomainValue, HostOnly, domain_text}
 use Rattle.cookie_parts.specs.Expiry.{Expiry, AtUtc, SessionEnd}
 use Rattle.cookie_laws.specs.Contents.{Contents}
-use Rattle.cookie_laws.specs.Header.{InHeaderOrder}
+use Rattle.cookie_strict.specs.declared.context.Context.{Context}
+use Rattle.cookie_store_c.specs.Headers.{AreCookiesOf}
 use Rattle.cookie_store_c.specs.Buffers.{at_start}
 use Rattle.cookie_store_c.specs.Inputs.{request}
 use Rattle.cookie_store_c.specs.declared.cookie_row.CookieRow.{CookieRow}
@@ -96,15 +97,16 @@ ReportsRows (Some store) rows strings reported =
     (reported ≡ rows_outcome store.rows rows strings)
     ⊎ (IsTooLong store.rows × (reported ≡ nothing_written NoMemory rows strings))
 
--- RFC 6265 5.4: the cookies of a request, in the order of the Cookie header, or the error
-abbrev pub IsRequestRows : Contents → Result (Parts × Moment) Status → Result (List Row) Status → Type 0
-IsRequestRows store (Ok inputs) expected = (cookies : List Row) × InHeaderOrder inputs.0 inputs.1 store cookies × (expected ≡ Ok cookies)
-IsRequestRows store (Err status) expected = expected ≡ Err status
+-- the cookies of a request, in the order of the Cookie header, or the error
+abbrev pub IsRequestRows : Option Context → Contents → Result (Parts × Moment) Status → Result (List Row) Status → Type 0
+IsRequestRows context store (Ok inputs) expected =
+    (cookies : List Row) × AreCookiesOf context inputs.0 inputs.1 store cookies × (expected ≡ Ok cookies)
+IsRequestRows context store (Err status) expected = expected ≡ Err status
 
 -- the same for the string of a URL and a time in seconds, or `NoStore` if there is no store
-abbrev pub IsRequestRowsIn : Option Contents → List ℕ → ℤ → Result (List Row) Status → Type 0
-IsRequestRowsIn None url now expected = expected ≡ Err NoStore
-IsRequestRowsIn (Some store) url now expected = IsRequestRows store (request url now) expected
+abbrev pub IsRequestRowsIn : Option Context → Option Contents → List ℕ → ℤ → Result (List Row) Status → Type 0
+IsRequestRowsIn context None url now expected = expected ≡ Err NoStore
+IsRequestRowsIn context (Some store) url now expected = IsRequestRows context store (request url now) expected
 
 -- these rows are written if they fit; on an error nothing is written, and both lengths are 0
 abbrev pub request_outcome : Result (List Row) Status → List CookieRow → List ℕ → BufferOutcome

@@ -6,6 +6,7 @@ pub mod Headers
 pub mod LoadedStores
 pub mod MergedStores
 pub mod InsertedCookies
+pub mod Responses
 pub mod CookieRows
 pub mod Roots
 pub mod RowIters

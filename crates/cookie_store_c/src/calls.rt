@@ -1,22 +1,25 @@
 //! Calls that change a store.
-ghost use Rattle.std.specs.Prelude.{◌≡◌, ◌⊎◌, ◌+◌, length, Ok, Some, IfErr, IsOk};
+ghost use Rattle.std.specs.Prelude.{◌≡◌, ◌⊎◌, ◌+◌, length, Ok, Some, IfErr, IsOk, ⊤};
 ghost use Rattle.std.specs.Result.{result_map_both};
+ghost use Rattle.cookie_words.specs.Moments.{moment_of};
 ghost use Rattle.cookie_laws.specs.Contents.{retained};
 ghost use Rattle.cookie_laws.specs.Rows.{key_at};
-ghost use Rattle.cookie_laws.specs.Runs.{Clear, Remove};
-ghost use Rattle.cookie_store_c.specs.Inputs.{text_and_time, moment_in, remove_call, response_inputs, set_call, text_in};
+ghost use Rattle.cookie_laws.specs.Runs.{Clear, Remove, Set};
+ghost use Rattle.cookie_store_c.specs.Inputs.{text_and_time, moment_in, remove_call, response_inputs, text_in};
 ghost use Rattle.cookie_store_c.specs.Headers.{cross_site};
-ghost use Rattle.cookie_store_c.specs.Calls.{domain_outcome, expired_outcome, has_other_domain, insertion_outcome, limit_outcome, response_outcome, store_outcome, suffixes_error_status, HasOutcome, UsesSuffixText, RunsOut};
+ghost use Rattle.cookie_store_c.specs.Calls.{domain_outcome, expired_outcome, insertion_outcome, limit_outcome, response_outcome, store_outcome, suffixes_error_status, HasOutcome, ParsesValue, UsesSuffixText, RunsOut};
 
 use crate::header::{cross_site, from_page};
 use crate::inputs::{moment_in, page_and_request, request, text_in};
 use crate::status::Status;
 use cookie_inputs::{SuffixesError, parse_suffixes};
 use cookie_store::{CookieStore, HashKey, strict};
+use jiff::civil::DateTime;
 use std::alloc::Global;
 use std::hash::RandomState;
 use std::io;
 use std::random::RandomSource;
+use url::Url;
 
 /// Parses the `Set-Cookie` header value `value` received from `url` and inserts the cookie, under
 /// the rules of browsers if `is_strict` is true.
@@ -28,8 +31,7 @@ pub(crate) fn parse(
     value: &[u8],
     now: i64,
 ) -> Status
-    ensures { HasOutcome (insertion_outcome is_strict store.old (set_call url.now value.now now)) (IsOk (text_in value.now) × IsOk (text_and_time url.now now))
-        (Some store.old) result (Some store.new) }
+    ensures { ParsesValue is_strict url.now now value.now store.old result store.new }
 {
     let text = match text_in(value) {
         Ok(text) => text,
@@ -39,10 +41,25 @@ pub(crate) fn parse(
         Ok(inputs) => inputs,
         Err(status) => return status,
     };
+    insert_text(store, is_strict, text, &url, now)
+}
+
+/// Inserts the cookie of the `Set-Cookie` header value `text` received from `url`, under the rules of
+/// browsers if `is_strict` is true.
+pub(crate) fn insert_text(
+    store: &mut CookieStore,
+    is_strict: bool,
+    text: &str,
+    url: &Url,
+    now: DateTime,
+) -> Status
+    ensures { HasOutcome (insertion_outcome is_strict store.old (Ok (Set text.now url.now (moment_of now)))) ⊤
+        (Some store.old) result (Some store.new) }
+{
     if is_strict {
-        Status::of_strict(strict::parse(store, text, &url, now))
+        Status::of_strict(strict::parse(store, text, url, now))
     } else {
-        Status::of_reply(store.parse(text, &url, now))
+        Status::of_reply(store.parse(text, url, now))
     }
 }
 
@@ -176,21 +193,11 @@ pub(crate) fn remove_domain(store: &mut CookieStore, domain: &[u8], removed: &mu
     *removed = 0;
     match text_in(domain) {
         Ok(domain) => {
-            *removed = remove_all_of(store, domain);
+            *removed = store.remove_domain(domain);
             Status::Done
         }
         Err(status) => status,
     }
-}
-
-// Removes the cookies of this domain, and returns how many.
-fn remove_all_of(store: &mut CookieStore, domain: &str) -> usize
-    ensures store { store.new ≡ retained (has_other_domain domain.now) store.old }
-    ensures removed { result + length store.new.rows ≡ length store.old.rows }
-{
-    let before = store.len();
-    store.retain(move |cookie| cookie.domain.as_str() != domain);
-    before - store.len()
 }
 
 /// Limits each domain to `limit` cookies, or returns `BadLimit` if `limit` is 0.

@@ -163,8 +163,8 @@ fn cookie_header(
     )
 }
 
-// Returns the cookies of a request, or those that a request with a context receives.
-fn header_cookies<'s>(
+/// Returns the cookies of a request, or those that a request with a context receives.
+pub(crate) fn header_cookies<'s>(
     store: &'s CookieStore,
     context: Option<Context>,
     url: &Url,

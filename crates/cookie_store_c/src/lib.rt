@@ -15,6 +15,7 @@ mod loading;
 mod merging;
 mod options;
 mod request_rows;
+mod response;
 mod roots;
 mod row_exports;
 mod row_iter;

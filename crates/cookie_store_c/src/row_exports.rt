@@ -1,11 +1,13 @@
 //! The functions that C programs call to read cookies. `cookie_store.h` documents them.
 ghost use Rattle.std.specs.Prelude.{◌≡◌, IsOk, IsSome};
 ghost use Rattle.cookie_store_c.specs.CookieRows.{IsRequestRowsIn, ReportsRows, WritesSomeRows};
+ghost use Rattle.cookie_store_c.specs.Headers.{own_request};
 ghost use Rattle.cookie_store_c.specs.Inputs.{text_and_time};
 ghost use Rattle.cookie_store_c.specs.Statuses.{IsCodeOf};
 
 use crate::cookie_row::{CookieRow, write_rows};
 use crate::handle::StoreHandle;
+use crate::header::own_request;
 use crate::request_rows::write_request_rows;
 use crate::status::Status;
 use std::alloc::Global;
@@ -78,7 +80,7 @@ pub extern "C" fn cookie_store_cookies_for(
     rows_needed: &mut usize,
     strings_needed: &mut usize,
 ) -> u32
-    ensures reported { IsCodeOf result (λ status. WritesSomeRows (IsRequestRowsIn handle.old.store_ptr.store url.now now)
+    ensures reported { IsCodeOf result (λ status. WritesSomeRows (IsRequestRowsIn (own_request handle.old.is_strict) handle.old.store_ptr.store url.now now)
         (IsSome handle.old.store_ptr.store × IsOk (text_and_time url.now now)) rows.old strings.old
         (record { status = status; rows = rows.new; strings = strings.new; rows_needed = rows_needed.new; strings_needed = strings_needed.new })) }
     ensures store { handle.new.store_ptr.store ≡ handle.old.store_ptr.store }
@@ -91,6 +93,7 @@ pub extern "C" fn cookie_store_cookies_for(
     let status = write_request_rows(
         alloc,
         &store,
+        own_request(handle.is_strict),
         url,
         now,
         rows,

@@ -69,8 +69,8 @@ is_secure_beside rules root call = is_secure_insertion call && passes (is_beside
 abbrev pub HasNoneBelowIpv4 : List ℕ → List Call → Type 0
 HasNoneBelowIpv4 host calls = (is_below_ipv4 host ≡ false) × (list_any (λ call. passes is_below_ipv4 (call_host call)) calls ≡ false)
 
--- besides, "leave secure cookies alone" compares no cookie at the root of this host with one beside it: there is no insecure
--- insertion at the root, or no secure one beside it
+-- no host lies below an IPv4 address, and "leave secure cookies alone" compares no cookie at the root of this host with one
+-- beside it: there is no insecure insertion at the root, or no secure one beside it
 abbrev pub IsSeparate : RuleList → List ℕ → List Call → Type 0
 IsSeparate rules host calls =
     HasNoneBelowIpv4 host calls

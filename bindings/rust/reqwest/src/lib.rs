@@ -120,21 +120,18 @@ impl SharedStore {
 
 impl reqwest::cookie::CookieStore for SharedStore {
     fn set_cookies(&self, set_cookies: &mut dyn Iterator<Item = &HeaderValue>, url: &Url) {
-        let now = SystemTime::now();
-        let address = http_url(url);
-        let mut dropped = Vec::new();
-        let mut store = self.lock();
-        for value in set_cookies {
-            let parsed = str::from_utf8(value.as_bytes())
-                .map_err(|_| Error::NotUtf8)
-                .and_then(|value| store.parse(value, &address, now));
-            if let Err(error) = parsed {
-                dropped.push((value, error));
+        let values: Vec<_> = set_cookies.collect();
+        let received = self
+            .lock()
+            .receive(&values, &http_url(url), SystemTime::now());
+        let received = received.unwrap_or_else(|error| {
+            let errors = values.iter().map(|value| Err(error_of(value, error)));
+            errors.collect()
+        });
+        for (value, received) in values.iter().zip(received) {
+            if let Err(error) = received {
+                self.report(url, name(value.as_bytes()), error);
             }
-        }
-        drop(store);
-        for (value, error) in dropped {
-            self.report(url, name(value.as_bytes()), error);
         }
     }
 
@@ -167,6 +164,14 @@ fn http_url(url: &Url) -> Cow<'_, str> {
     match url.scheme() {
         "ws" | "wss" => url.as_str().replacen("ws", "http", 1).into(),
         _ => url.as_str().into(),
+    }
+}
+
+/// Returns the error of a header value whose URL has this error.
+fn error_of(value: &HeaderValue, error: Error) -> Error {
+    match str::from_utf8(value.as_bytes()) {
+        Ok(_) => error,
+        Err(_) => Error::NotUtf8,
     }
 }
 

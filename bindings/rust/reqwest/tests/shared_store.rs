@@ -101,6 +101,9 @@ fn dropped_cookies_are_reported() {
         &mut [HeaderValue::from_static("o=value")].iter(),
         &url("data:value"),
     );
+    let values: [&[u8]; 2] = [b"p=\xff", b"q=value"];
+    let values = values.map(|value| HeaderValue::from_bytes(value).unwrap());
+    store.set_cookies(&mut values.iter(), &url("data:not a URL"));
     let expected = [
         r#"a.example: cookie "": not a cookie (1)"#,
         r#"a.example: cookie "": not a cookie (1)"#,
@@ -110,6 +113,8 @@ fn dropped_cookies_are_reported() {
         r#"a.example: cookie "": not UTF-8 (1)"#,
         r#"a.example: cookie "e": the cookie has expired (1)"#,
         r#": cookie "o": no Domain attribute, and no host in the URL (1)"#,
+        r#": cookie "p": not UTF-8 (1)"#,
+        r#": cookie "q": not a valid URL (1)"#,
     ];
     assert_eq!(*notes.lock().unwrap(), expected);
     assert_eq!(store.cookies(&url("data:value")), None);

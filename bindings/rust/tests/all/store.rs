@@ -73,6 +73,44 @@ fn assert_rows(store: &mut CookieStore, rows: &[Row]) {
     }
 }
 
+/// One call for all header values of a response does what `parse` does for each.
+#[test]
+fn responses_are_received() {
+    for rows in [&ROWS[..], &STRICT_ROWS] {
+        let mut store = CookieStore::new().unwrap();
+        let mut single = CookieStore::new().unwrap();
+        for store in [&mut store, &mut single] {
+            store.set_suffix_list("example\n").unwrap();
+            store.set_strict(rows.len() == STRICT_ROWS.len());
+        }
+        let values: Vec<_> = rows.iter().map(|(_, set_cookie, _)| *set_cookie).collect();
+        let expected: Vec<_> = values
+            .iter()
+            .map(|value| single.parse(value, SECURE_PAGE, at(NOW)))
+            .collect();
+        assert_eq!(store.receive(&values, SECURE_PAGE, at(NOW)), Ok(expected));
+        assert_eq!(store.cookies(), single.cookies());
+    }
+}
+
+#[test]
+fn responses_have_errors() {
+    let mut store = CookieStore::new().unwrap();
+    let values: [&[u8]; 3] = [b"a=1", b"b=\xff", b""];
+    for (url, now, expected) in [
+        ("no url", NOW, Error::BadUrl),
+        ("no url", LAST + 1, Error::BadTime),
+        (PAGE, FIRST - 1, Error::BadTime),
+    ] {
+        assert_eq!(store.receive(values, url, at(now)), Err(expected), "{url}");
+    }
+    assert!(store.is_empty());
+    let expected = vec![INSERTED, Err(Error::NotUtf8), Err(Error::Parse)];
+    assert_eq!(store.receive(values, PAGE, at(NOW)), Ok(expected));
+    assert_eq!(store.receive([""; 0], PAGE, at(NOW)), Ok(vec![]));
+    assert_header(&store, PAGE, NOW, "a=1");
+}
+
 #[test]
 fn cookies_are_parsed() {
     let mut store = CookieStore::new().unwrap();
