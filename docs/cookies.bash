@@ -7,21 +7,28 @@ _cookies() {
         before=${COMP_WORDS[COMP_CWORD - 2]}
     fi
     case $before in
-        --format | --from | --to) mapfile -t COMPREPLY < <(compgen -W 'json jsonl ron txt' -- "$word"); return ;;
-        --now | --domain) return ;;
+        --to) mapfile -t COMPREPLY < <(compgen -W 'json jsonl ron txt' -- "$word"); return ;;
+        --format | --from)
+            case ${COMP_WORDS[1]} in
+                set | remove | purge) mapfile -t COMPREPLY < <(compgen -W 'json jsonl ron txt' -- "$word") ;;
+                *) mapfile -t COMPREPLY < <(compgen -W 'json jsonl ron txt browser playwright' -- "$word") ;;
+            esac
+            return ;;
+        --now | --domain | --set-cookie) return ;;
     esac
     if [ "$COMP_CWORD" = 1 ]; then
-        mapfile -t COMPREPLY < <(compgen -W 'show header set remove purge convert help --help --version' -- "$word")
+        mapfile -t COMPREPLY < <(compgen -W 'show header explain set remove purge convert help --help --version' -- "$word")
         return
     fi
     case ${COMP_WORDS[1]} in
         show) options='--json --skip-malformed --format' ;;
         header) options='--suffixes --only-listed --strict --cross-site --skip-malformed --format' ;;
+        explain) options='--set-cookie --suffixes --only-listed --strict --cross-site --skip-malformed --format' ;;
         set) options='--suffixes --only-listed --strict --format' ;;
         remove) options='--format' ;;
         purge) options='--expired --session --domain --format' ;;
         convert) options='--skip-malformed --skip-unrepresentable --from --to' ;;
-        help) mapfile -t COMPREPLY < <(compgen -W 'show header set remove purge convert' -- "$word"); return ;;
+        help) mapfile -t COMPREPLY < <(compgen -W 'show header explain set remove purge convert' -- "$word"); return ;;
     esac
     case $word in
         -*) mapfile -t COMPREPLY < <(compgen -W "$options --now --help" -- "$word") ;;

@@ -47,7 +47,7 @@ def _readable(cookies: Iterable[Mapping[str, Any]], expiry: str) -> Iterator[Coo
         try:
             cookie = _cookie_of(fields, fields.get(expiry))
             _check(cookie, now)
-            is_partitioned = fields.get('partitionKey') not in (None, '', 0)
+            is_partitioned = any(fields.get(key) not in (None, '', 0) for key in ('partitionKey', 'firstPartyDomain'))
             reason = 'it is of a partition or another container' if is_partitioned else ''
         except CookieStoreError as error:
             reason = str(error)
@@ -64,9 +64,10 @@ def _cookie_of(fields: Mapping[str, Any], expiry: Any) -> Cookie:
         raise CookieStoreError(Status.PARSE)
     domain, path, name, value = strings
     secure, same_site = bool(fields.get('secure')), _SAME_SITES.get(str(fields.get('sameSite') or '').lower())
+    host_only = fields.get('hostOnly')
     return Cookie(
         domain[domain.startswith('.'):].lower(), path, name, value, _seconds(expiry),
-        host_only=bool(fields.get('hostOnly', not domain.startswith('.'))), has_path=True, secure=secure,
+        host_only=not domain.startswith('.') if host_only is None else bool(host_only), has_path=True, secure=secure,
         http_only=bool(fields.get('httpOnly')), same_site=None if same_site == 'None' and not secure else same_site)
 
 

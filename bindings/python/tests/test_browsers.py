@@ -65,6 +65,7 @@ EXTENSION = [
     ({'domain': 'a.example', 'hostOnly': True, 'name': 'd', 'path': '/', 'sameSite': 'strict', 'value': '4',
       'storeId': 'firefox-default', 'firstPartyDomain': '', 'partitionKey': None}, cookie('d', '4', same_site='Strict')),
     ({'domain': 'a.example', 'hostOnly': True, 'name': 'e', 'path': '/', 'sameSite': 'unspecified', 'value': '5'}, cookie('e', '5')),
+    ({'domain': 'a.example', 'hostOnly': None, 'name': 'f', 'value': '6'}, cookie('f', '6')),
 ]
 
 # Cookies that are left out, with the reason that is logged.
@@ -90,6 +91,8 @@ LEFT_OUT = [
     ({'domain': 'a.example', 'name': 'x', 'value': 'VALUE', 'partitionKey': 'https://b.example'},
      'it is of a partition or another container'),
     ({'domain': 'a.example', 'name': 'x', 'value': 'VALUE', 'partitionKey': {}}, 'it is of a partition or another container'),
+    ({'domain': 'a.example', 'name': 'x', 'value': 'VALUE', 'firstPartyDomain': 'b.example'},
+     'it is of a partition or another container'),
     ({'domain': '.a.example', 'name': 'x', 'value': 'VALUE'}, 'a later cookie replaces it'),
 ]
 

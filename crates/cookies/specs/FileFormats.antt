@@ -1,9 +1,12 @@
 -- The formats of files of cookies.
-use Rattle.std.specs.Prelude.{ℕ, Bool, true, false, List, bytes_eq, codes, Option, Some, None, option_and_then, if◌then◌else◌}
+use Rattle.std.specs.Prelude.{ℕ, Bool, true, false, List, bytes_eq, codes, Option, Some, None, option_and_then, option_map, if◌then◌else◌}
 use Rattle.std.specs.Path.{path_extension}
 use Rattle.cookie_serde.specs.declared.format.Format.TheVariants.{Json, Ron, Netscape}
+use Rattle.cookies.specs.declared.format.Export.TheVariants.{Browser, Playwright}
 use Rattle.cookies.specs.declared.format.FileFormat.{FileFormat}
 use Rattle.cookies.specs.declared.format.FileFormat.TheVariants.{JsonLines, Saved}
+use Rattle.cookies.specs.declared.format.InputFormat.{InputFormat}
+use Rattle.cookies.specs.declared.format.InputFormat.TheVariants.{File, Export}
 
 -- the format with this name
 unfoldable pub format_of_name : List ℕ → Option FileFormat
@@ -24,3 +27,14 @@ is_cookies_txt (Saved Netscape) = true
 is_cookies_txt (Saved Json) = false
 is_cookies_txt (Saved Ron) = false
 is_cookies_txt JsonLines = false
+
+-- the format with this name, of a file that is read
+unfoldable pub input_format_of_name : List ℕ → Option InputFormat
+input_format_of_name name =
+    if bytes_eq name (codes "browser") then Some (Export Browser)
+    else (if bytes_eq name (codes "playwright") then Some (Export Playwright)
+    else option_map File (format_of_name name))
+
+-- the format that the suffix of a file name stands for, of a file that is read
+abbrev pub input_format_of_file_name : List ℕ → Option InputFormat
+input_format_of_file_name file_name = option_map File (format_of_file_name file_name)

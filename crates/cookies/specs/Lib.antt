@@ -2,6 +2,8 @@ pub mod Cells
 pub mod Domains
 pub mod EditedFiles
 pub mod Escapes
+pub mod Explanations
+pub mod ExportItems
 pub mod FileNames
 pub mod FileFormats
 pub mod Purges

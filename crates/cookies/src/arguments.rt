@@ -1,8 +1,8 @@
 //! Parses the command line.
 use crate::command_line::command_line;
 use crate::error::{Failure, Usage};
-use crate::format::FileFormat;
-use crate::options::{Command, CookieFile, Key, Request, SuffixFile};
+use crate::format::{FileFormat, InputFormat};
+use crate::options::{Command, CookieFile, InputFile, Key, Request, SuffixFile};
 use crate::purge::Purge;
 use clap::ArgMatches;
 use clap::error::ErrorKind;
@@ -26,6 +26,7 @@ pub fn parse<'a>(alloc: Global, words: &'a [String]) -> Result<Request<'a>, Fail
     let command = match verb {
         "show" => show(matches)?,
         "header" => header(alloc, matches)?,
+        "explain" => explain(alloc, matches)?,
         "set" => set(alloc, matches)?,
         "remove" => remove(matches)?,
         "purge" => purge(matches)?,
@@ -62,21 +63,39 @@ fn one_line(alloc: Global, text: &str) -> Result<String, AllocError> {
 
 fn show<'a>(matches: &ArgMatches<'a>) -> Result<Command<'a>, Usage<'a>> {
     Ok(Command::Show {
-        file: cookie_file(matches, "FILE", "format", "--format")?,
+        file: input_file(matches, "FILE", "format", "--format")?,
         is_json: matches.get_flag("json"),
-        skips_malformed: matches.get_flag("skip-malformed"),
     })
 }
 
 fn header<'a>(alloc: Global, matches: &ArgMatches<'a>) -> Result<Command<'a>, Failure<'a>> {
     let url = url(alloc, matches)?;
-    let file = cookie_file(matches, "FILE", "format", "--format")?;
+    let file = input_file(matches, "FILE", "format", "--format")?;
     Ok(Command::Header {
         url,
         file,
-        suffixes: suffixes(matches, file)?,
-        context: context(matches),
-        skips_malformed: matches.get_flag("skip-malformed"),
+        suffixes: suffixes(matches, Some(file.name))?,
+        context: context(matches, matches.get_flag("cross-site")),
+    })
+}
+
+fn explain<'a>(alloc: Global, matches: &ArgMatches<'a>) -> Result<Command<'a>, Failure<'a>> {
+    let url = url(alloc, matches)?;
+    let context = context(matches, matches.get_flag("cross-site"));
+    if let Some(value) = matches.get_str("set-cookie") {
+        return Ok(Command::ExplainValue {
+            url,
+            value,
+            suffixes: suffixes(matches, None)?,
+            context,
+        });
+    }
+    let file = input_file(matches, "FILE", "format", "--format")?;
+    Ok(Command::Explain {
+        url,
+        file,
+        suffixes: suffixes(matches, Some(file.name))?,
+        context,
     })
 }
 
@@ -87,8 +106,8 @@ fn set<'a>(alloc: Global, matches: &ArgMatches<'a>) -> Result<Command<'a>, Failu
         url,
         value: word(matches, "SET-COOKIE")?,
         file,
-        suffixes: suffixes(matches, file)?,
-        is_strict: matches.get_flag("strict"),
+        suffixes: suffixes(matches, Some(file.name))?,
+        context: context(matches, false),
     })
 }
 
@@ -116,9 +135,8 @@ fn purge<'a>(matches: &ArgMatches<'a>) -> Result<Command<'a>, Usage<'a>> {
 
 fn convert<'a>(matches: &ArgMatches<'a>) -> Result<Command<'a>, Usage<'a>> {
     Ok(Command::Convert {
-        input: cookie_file(matches, "IN", "from", "--from")?,
+        input: input_file(matches, "IN", "from", "--from")?,
         output: cookie_file(matches, "OUT", "to", "--to")?,
-        skips_malformed: matches.get_flag("skip-malformed"),
         skips_unrepresentable: matches.get_flag("skip-unrepresentable"),
     })
 }
@@ -146,13 +164,37 @@ fn cookie_file<'a>(
     }
 }
 
-// Returns the file of a public suffix list. Standard input can't be both this and the cookies.
+// Returns the file of an argument that is only read, in the format of an option or of the file's
+// suffix.
+fn input_file<'a>(
+    matches: &ArgMatches<'a>,
+    id: &'static str,
+    option_id: &str,
+    option: &'static str,
+) -> Result<InputFile<'a>, Usage<'a>> {
+    let name = word(matches, id)?;
+    let format = match matches.get_str(option_id) {
+        Some(format) => InputFormat::of_name(format),
+        None => InputFormat::of_file_name(name),
+    };
+    match format {
+        Some(format) => Ok(InputFile {
+            name,
+            format,
+            skips_malformed: matches.get_flag("skip-malformed"),
+        }),
+        None => Err(Usage::UnknownFormat(name, option)),
+    }
+}
+
+// Returns the file of a public suffix list. Standard input can't be both this and the file of the
+// cookies, if there is one.
 fn suffixes<'a>(
     matches: &ArgMatches<'a>,
-    file: CookieFile<'a>,
+    file_name: Option<&'a str>,
 ) -> Result<Option<SuffixFile<'a>>, Usage<'a>> {
     match matches.get_str("suffixes") {
-        Some(name) if name == "-" && file.name == "-" => Err(Usage::InputTwice),
+        Some("-") if file_name == Some("-") => Err(Usage::InputTwice),
         Some(name) => Ok(Some(SuffixFile {
             name,
             only_listed: matches.get_flag("only-listed"),
@@ -162,12 +204,12 @@ fn suffixes<'a>(
 }
 
 // Returns where a request comes from, if the rules of browsers hold.
-fn context(matches: &ArgMatches<'_>) -> Option<Context> {
+fn context(matches: &ArgMatches<'_>, is_cross_site: bool) -> Option<Context> {
     if !matches.get_flag("strict") {
         return None;
     }
     Some(Context {
-        is_same_site: !matches.get_flag("cross-site"),
+        is_same_site: !is_cross_site,
         is_top_level: false,
         is_safe: true,
         is_lax_by_default: true,

@@ -1,5 +1,5 @@
 //! The commands and their arguments, as `clap` parses them.
-use crate::format::FORMAT_NAMES;
+use crate::format::{FORMAT_NAMES, INPUT_FORMAT_NAMES};
 use clap::builder::ValueParser;
 use clap::{Arg, ArgAction, Command};
 use std::alloc::{AllocError, Global};
@@ -20,6 +20,7 @@ pub fn command_line<'a>(alloc: Global) -> Result<Command<'a>, AllocError> {
         .subcommand_required(true)
         .subcommand(show(alloc)?)?
         .subcommand(header(alloc)?)?
+        .subcommand(explain(alloc)?)?
         .subcommand(set(alloc)?)?
         .subcommand(remove(alloc)?)?
         .subcommand(purge(alloc)?)?
@@ -28,8 +29,9 @@ pub fn command_line<'a>(alloc: Global) -> Result<Command<'a>, AllocError> {
 
 /// What the help says after the commands.
 const AFTER_HELP: &str = "\
-A file has the format of its suffix: .json, .jsonl, .ron or .txt. The name - is
-standard input or standard output.";
+A file has the format of its suffix: .json, .jsonl, .ron or .txt. What extensions
+of browsers and Playwright export is read by --format browser and --format
+playwright. The name - is standard input or standard output.";
 
 fn show<'a>(alloc: Global) -> Result<Command<'a>, AllocError> {
     Command::new(alloc, "show")
@@ -37,7 +39,7 @@ fn show<'a>(alloc: Global) -> Result<Command<'a>, AllocError> {
         .arg(word(alloc, "FILE", "The file of the cookies"))?
         .arg(flag(alloc, "json", "Prints a JSON list instead"))?
         .arg(skip_malformed(alloc))?
-        .arg(format(alloc, "format", "The format of FILE"))?
+        .arg(input_format(alloc, "format", "The format of FILE"))?
         .arg(now(alloc))
 }
 
@@ -52,11 +54,38 @@ fn header<'a>(alloc: Global) -> Result<Command<'a>, AllocError> {
         ))?
         .arg(only_listed(alloc)?)?
         .arg(flag(alloc, "strict", "Follows the rules of browsers"))?
-        .arg(flag(alloc, "cross-site", "The request comes from another site").requires_arg(
-            "strict",
-        )?)?
+        .arg(cross_site(alloc)?)?
         .arg(skip_malformed(alloc))?
-        .arg(format(alloc, "format", "The format of FILE"))?
+        .arg(input_format(alloc, "format", "The format of FILE"))?
+        .arg(now(alloc))
+}
+
+fn explain<'a>(alloc: Global) -> Result<Command<'a>, AllocError> {
+    Command::new(alloc, "explain")
+        .about("Prints why a request has a cookie or not, or a value is stored or not")
+        .arg(word(alloc, "URL", "The URL of the request"))?
+        .arg(
+            Arg::new(alloc, "FILE")
+                .required_unless_present("set-cookie")?
+                .help("The file of the cookies"),
+        )?
+        .arg(
+            option(
+                alloc,
+                "set-cookie",
+                "VALUE",
+                "Explains a Set-Cookie header value received from URL instead",
+            )
+            .conflicts_with("FILE")?
+            .conflicts_with("format")?
+            .conflicts_with("skip-malformed")?,
+        )?
+        .arg(suffixes(alloc, "Follows the public suffixes of LIST"))?
+        .arg(only_listed(alloc)?)?
+        .arg(flag(alloc, "strict", "Follows the rules of browsers"))?
+        .arg(cross_site(alloc)?)?
+        .arg(skip_malformed(alloc))?
+        .arg(input_format(alloc, "format", "The format of FILE"))?
         .arg(now(alloc))
 }
 
@@ -118,7 +147,7 @@ fn convert<'a>(alloc: Global) -> Result<Command<'a>, AllocError> {
             "skip-unrepresentable",
             "Leaves out cookies that a cookies.txt cannot represent",
         ))?
-        .arg(format(alloc, "from", "The format of IN"))?
+        .arg(input_format(alloc, "from", "The format of IN"))?
         .arg(format(alloc, "to", "The format of OUT"))?
         .arg(now(alloc))
 }
@@ -134,6 +163,10 @@ fn flag<'a>(alloc: Global, id: &'a str, help: &'a str) -> Arg<'a> {
         .help(help)
 }
 
+fn cross_site<'a>(alloc: Global) -> Result<Arg<'a>, AllocError> {
+    flag(alloc, "cross-site", "The request comes from another site").requires_arg("strict")
+}
+
 fn option<'a>(alloc: Global, id: &'a str, value_name: &'a str, help: &'a str) -> Arg<'a> {
     Arg::new(alloc, id)
         .long(id)
@@ -143,6 +176,10 @@ fn option<'a>(alloc: Global, id: &'a str, value_name: &'a str, help: &'a str) ->
 
 fn format<'a>(alloc: Global, id: &'a str, help: &'a str) -> Arg<'a> {
     option(alloc, id, "F", help).value_parser(ValueParser::Names(&FORMAT_NAMES))
+}
+
+fn input_format<'a>(alloc: Global, id: &'a str, help: &'a str) -> Arg<'a> {
+    option(alloc, id, "F", help).value_parser(ValueParser::Names(&INPUT_FORMAT_NAMES))
 }
 
 fn suffixes<'a>(alloc: Global, help: &'a str) -> Arg<'a> {
@@ -157,7 +194,7 @@ fn skip_malformed<'a>(alloc: Global) -> Arg<'a> {
     flag(
         alloc,
         "skip-malformed",
-        "Leaves out malformed lines of a cookies.txt",
+        "Leaves out malformed lines of a cookies.txt and items of an export",
     )
 }
 

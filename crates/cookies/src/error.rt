@@ -6,6 +6,7 @@ ghost use Rattle.cookies.specs.ExitStatuses.{status_of};
 
 use crate::escape::escaped;
 use crate::files::{input_name, output_name};
+use crate::format::Export;
 use cookie_inputs::SuffixesError;
 use cookie_store::netscape::NetscapeError;
 use cookie_store::serde::{FormatError, MigrateError};
@@ -64,6 +65,10 @@ pub enum FileError {
     Suffixes(SuffixesError),
     /// A line of a `cookies.txt` is malformed, and the command has the option to leave it out.
     Malformed(FormatError),
+    /// It is not an export of this format.
+    NotExported(Export),
+    /// The item of this number in an export is not a cookie.
+    MalformedItem(usize),
     /// It has no cookie with the domain, path and name.
     NoCookie,
     /// It is an open descriptor.
@@ -93,6 +98,18 @@ impl fmt::Display for FileError {
             FileError::Lines(error) => error.fmt(f),
             FileError::Suffixes(error) => error.fmt(f),
             FileError::Malformed(error) => write!(f, "{error}; --skip-malformed leaves it out"),
+            FileError::NotExported(Export::Browser) => {
+                f.write_str("not a list, as extensions of browsers export cookies")
+            }
+            FileError::NotExported(Export::Playwright) => {
+                f.write_str("not a storage state of Playwright")
+            }
+            FileError::MalformedItem(item) => {
+                write!(
+                    f,
+                    "item {item} is not a cookie; --skip-malformed leaves it out"
+                )
+            }
             FileError::NoCookie => f.write_str("no such cookie"),
             FileError::Descriptor => f.write_str("an open descriptor cannot be replaced"),
             FileError::ControlCharacter => {

@@ -1,6 +1,6 @@
 //! The formats of files of cookies.
 ghost use Rattle.std.specs.Prelude.{◌≡◌};
-ghost use Rattle.cookies.specs.FileFormats.{format_of_file_name, format_of_name, is_cookies_txt};
+ghost use Rattle.cookies.specs.FileFormats.{format_of_file_name, format_of_name, input_format_of_file_name, input_format_of_name, is_cookies_txt};
 
 use cookie_store::serde::Format;
 use std::path::Path;
@@ -14,8 +14,29 @@ pub enum FileFormat {
     JsonLines,
 }
 
-/// The names of the formats, as `--format` takes them.
+/// The names of these formats, as `--format` takes them.
 pub const FORMAT_NAMES: [&str; 4] = ["json", "jsonl", "ron", "txt"];
+
+/// A format that is only read: what another program exports, in JSON.
+#[derive(Clone, Copy, Debug, PartialEq, Eq)]
+pub enum Export {
+    /// The list of an extension of a browser, such as Cookie-Editor.
+    Browser,
+    /// A storage state of Playwright.
+    Playwright,
+}
+
+/// The format of a file that is read.
+#[derive(Clone, Copy, Debug, PartialEq, Eq)]
+pub enum InputFormat {
+    /// A format that is written too.
+    File(FileFormat),
+    /// A format that is only read.
+    Export(Export),
+}
+
+/// The names of the formats that are read.
+pub const INPUT_FORMAT_NAMES: [&str; 6] = ["json", "jsonl", "ron", "txt", "browser", "playwright"];
 
 impl FileFormat {
     /// Returns the format with this name.
@@ -46,5 +67,28 @@ impl FileFormat {
         ensures { result ≡ is_cookies_txt self }
     {
         matches!(self, FileFormat::Saved(Format::Netscape))
+    }
+}
+
+impl InputFormat {
+    /// Returns the format with this name.
+    #[tactic(auto, unfolding(crate::specs::FileFormats::input_format_of_name))]
+    pub fn of_name(name: &str) -> Option<InputFormat>
+        ensures { result ≡ input_format_of_name name.now }
+    {
+        if name == "browser" {
+            Some(InputFormat::Export(Export::Browser))
+        } else if name == "playwright" {
+            Some(InputFormat::Export(Export::Playwright))
+        } else {
+            Some(InputFormat::File(FileFormat::of_name(name)?))
+        }
+    }
+
+    /// Returns the format that the suffix of a file name stands for, which is one that is written too.
+    pub fn of_file_name(file_name: &str) -> Option<InputFormat>
+        ensures { result ≡ input_format_of_file_name file_name.now }
+    {
+        Some(InputFormat::File(FileFormat::of_file_name(file_name)?))
     }
 }

@@ -5,11 +5,15 @@
 #![tactic(auto)]
 
 mod arguments;
+mod columns;
 mod command_line;
 mod domain;
 mod edit;
 mod error;
 mod escape;
+mod explanation;
+mod export;
+mod export_item;
 mod files;
 mod format;
 mod note;

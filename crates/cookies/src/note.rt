@@ -12,6 +12,10 @@ use std::fmt;
 pub enum Note {
     /// The line of this number is malformed.
     Malformed(usize),
+    /// The item of this number in an export is not a cookie.
+    MalformedItem(usize),
+    /// The number of cookies that were left out, since they are partitioned.
+    Partitioned(usize),
     /// The number of cookies that were left out, since the format cannot represent them.
     LeftOut(usize),
     /// The number of cookies that lost their SameSite attribute, which the format does not have.
@@ -22,6 +26,10 @@ impl fmt::Display for Note {
     fn fmt<W: fmt::Write>(&self, f: &mut fmt::Formatter<W>) -> fmt::Result {
         match self {
             Note::Malformed(line) => write!(f, "line {line} is not a cookie"),
+            Note::MalformedItem(item) => write!(f, "item {item} is not a cookie"),
+            Note::Partitioned(count) => {
+                write!(f, "cookies left out, since they are partitioned: {count}")
+            }
             Note::LeftOut(count) => write!(
                 f,
                 "cookies left out, since cookies.txt cannot represent them: {count}"
@@ -39,7 +47,10 @@ impl fmt::Display for Note {
 impl Note {
     /// Whether there is nothing to say: no cookie.
     pub fn is_empty(&self) -> bool {
-        matches!(self, Note::LeftOut(0) | Note::WithoutSameSite(0))
+        matches!(
+            self,
+            Note::Partitioned(0) | Note::LeftOut(0) | Note::WithoutSameSite(0)
+        )
     }
 
     /// Returns the line for standard error, without its line feed. It has no character that is escaped.

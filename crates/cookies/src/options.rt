@@ -1,5 +1,5 @@
 //! What the command line asks for.
-use crate::format::FileFormat;
+use crate::format::{FileFormat, InputFormat};
 use crate::purge::Purge;
 use cookie_store::strict::Context;
 use jiff::civil::DateTime;
@@ -10,6 +10,15 @@ use url::Url;
 pub struct CookieFile<'a> {
     pub name: &'a str,
     pub format: FileFormat,
+}
+
+/// A file that is read, and the format of its cookies. The name `-` is standard input.
+#[derive(Clone, Copy, Debug, PartialEq, Eq)]
+pub struct InputFile<'a> {
+    pub name: &'a str,
+    pub format: InputFormat,
+    /// Whether malformed lines and items are left out.
+    pub skips_malformed: bool,
 }
 
 /// The file of a public suffix list. The name `-` is standard input.
@@ -37,20 +46,34 @@ pub enum Command<'a> {
     },
     /// Prints all cookies: as a table, or as a JSON list.
     Show {
-        file: CookieFile<'a>,
+        file: InputFile<'a>,
         is_json: bool,
-        /// Whether malformed lines are left out.
-        skips_malformed: bool,
     },
     /// Prints the value of the Cookie header of a request.
     Header {
         url: Url,
-        file: CookieFile<'a>,
+        file: InputFile<'a>,
         suffixes: Option<SuffixFile<'a>>,
         /// Where the request comes from, if the rules of browsers hold.
         context: Option<Context>,
-        /// Whether malformed lines are left out.
-        skips_malformed: bool,
+    },
+    /// Prints whether a request has each cookie of its URL's site, and of its host's parent domains and
+    /// subdomains, or why not.
+    Explain {
+        url: Url,
+        file: InputFile<'a>,
+        suffixes: Option<SuffixFile<'a>>,
+        /// Where the request comes from, if the rules of browsers hold.
+        context: Option<Context>,
+    },
+    /// Prints the cookie that a `Set-Cookie` header value received from the URL sets, or why it is
+    /// rejected.
+    ExplainValue {
+        url: Url,
+        value: &'a str,
+        suffixes: Option<SuffixFile<'a>>,
+        /// Where the request came from, if the rules of browsers hold.
+        context: Option<Context>,
     },
     /// Inserts the cookie of a `Set-Cookie` header value received from the URL.
     Set {
@@ -58,8 +81,8 @@ pub enum Command<'a> {
         value: &'a str,
         file: CookieFile<'a>,
         suffixes: Option<SuffixFile<'a>>,
-        /// Whether the rules of browsers hold.
-        is_strict: bool,
+        /// Where the request came from, if the rules of browsers hold.
+        context: Option<Context>,
     },
     /// Removes one cookie.
     Remove {
@@ -73,10 +96,8 @@ pub enum Command<'a> {
     },
     /// Reads a file, and writes its cookies to another.
     Convert {
-        input: CookieFile<'a>,
+        input: InputFile<'a>,
         output: CookieFile<'a>,
-        /// Whether malformed lines are left out.
-        skips_malformed: bool,
         /// Whether cookies that the format of the output cannot represent are left out.
         skips_unrepresentable: bool,
     },

@@ -40,7 +40,7 @@ pub fn remove_purged(store: &mut CookieStore, purge: Purge<'_>, now: DateTime)
     let (is_expired, is_session) = (purge.is_expired, purge.is_session);
     store.retain(move |cookie| !is_stale(is_expired, is_session, cookie, now));
     if let Some(domain) = purge.domain {
-        store.retain(move |cookie| domain != cookie.domain.as_str());
+        store.remove_domain(domain);
     }
 }
 

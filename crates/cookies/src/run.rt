@@ -3,10 +3,12 @@ use crate::arguments::parse;
 use crate::domain::named_domain;
 use crate::edit::{after_removal, after_set, set_cookie};
 use crate::error::{Failure, FileError};
+use crate::explanation::{RequestRules, rejection};
+use crate::export::read_exported;
 use crate::files::{self, input_name, output_name};
-use crate::format::FileFormat;
+use crate::format::{Export, FileFormat, InputFormat};
 use crate::note::Note;
-use crate::options::{Command, CookieFile, Key, Request, SuffixFile};
+use crate::options::{Command, CookieFile, InputFile, Key, Request, SuffixFile};
 use crate::purge::{Purge, remove_purged};
 use crate::request::{has_control, is_for_suffix, request_cookies};
 use crate::storage::{
@@ -15,6 +17,7 @@ use crate::storage::{
 use crate::table::table;
 use cookie_inputs::parse_suffixes;
 use cookie_store::psl::List;
+use cookie_store::raw::Syntax;
 use cookie_store::serde::Format;
 use cookie_store::strict::{self, Context};
 use cookie_store::{CookieStore, HashKey, StoreAlloc, cookie_string};
@@ -57,43 +60,44 @@ impl<'r> Runner<'r> {
     fn run<'a>(&self, command: Command<'a>) -> Result<(), Failure<'a>> {
         match command {
             Command::Print { text } => self.write("-", text.as_bytes()),
-            Command::Show {
-                file,
-                is_json,
-                skips_malformed,
-            } => self.show(file, is_json, skips_malformed),
+            Command::Show { file, is_json } => self.show(file, is_json),
             Command::Header {
                 url,
                 file,
                 suffixes,
                 context,
-                skips_malformed,
-            } => self.header(&url, file, suffixes, context, skips_malformed),
+            } => self.header(&url, file, suffixes, context),
+            Command::Explain {
+                url,
+                file,
+                suffixes,
+                context,
+            } => self.explain(&url, file, suffixes, context),
+            Command::ExplainValue {
+                url,
+                value,
+                suffixes,
+                context,
+            } => self.explain_value(&url, value, suffixes, context),
             Command::Set {
                 url,
                 value,
                 file,
                 suffixes,
-                is_strict,
-            } => self.set(&url, value, file, suffixes, is_strict),
+                context,
+            } => self.set(&url, value, file, suffixes, context),
             Command::Remove { file, key } => self.remove(file, key),
             Command::Purge { file, purge } => self.purge(file, purge),
             Command::Convert {
                 input,
                 output,
-                skips_malformed,
                 skips_unrepresentable,
-            } => self.convert(input, output, skips_malformed, skips_unrepresentable),
+            } => self.convert(input, output, skips_unrepresentable),
         }
     }
 
-    fn show<'a>(
-        &self,
-        file: CookieFile<'a>,
-        is_json: bool,
-        skips_malformed: bool,
-    ) -> Result<(), Failure<'a>> {
-        let store = self.load(file, skips_malformed)?;
+    fn show<'a>(&self, file: InputFile<'a>, is_json: bool) -> Result<(), Failure<'a>> {
+        let store = self.load(file)?;
         if is_json {
             let list = written_cookies(FileFormat::Saved(Format::Json), &store);
             let list = list.map_err(|error| Failure::input(file.name, error))?;
@@ -107,13 +111,12 @@ impl<'r> Runner<'r> {
     fn header<'a>(
         &self,
         url: &Url,
-        file: CookieFile<'a>,
+        file: InputFile<'a>,
         suffixes: Option<SuffixFile<'a>>,
         context: Option<Context>,
-        skips_malformed: bool,
     ) -> Result<(), Failure<'a>> {
         let list = self.list(suffixes)?;
-        let store = self.load(file, skips_malformed)?;
+        let store = self.load(file)?;
         let mut cookies = request_cookies(&store, url, context, self.now)?;
         if let Some(list) = &list {
             cookies.retain(|cookie| !is_for_suffix(cookie, list));
@@ -132,13 +135,64 @@ impl<'r> Runner<'r> {
         self.write("-", header.as_bytes())
     }
 
+    fn explain<'a>(
+        &self,
+        url: &Url,
+        file: InputFile<'a>,
+        suffixes: Option<SuffixFile<'a>>,
+        context: Option<Context>,
+    ) -> Result<(), Failure<'a>> {
+        let list = self.list(suffixes)?;
+        let list = list.unwrap_or(List::new(self.alloc.alloc));
+        let store = self.load(file)?;
+        // browsers send Secure cookies to names below localhost, over http too
+        let url = if context.is_some() {
+            strict::as_secure(url)?
+        } else {
+            url.clone()?
+        };
+        let rules = RequestRules {
+            url: &url,
+            time: self.now,
+            suffixes: &list,
+            context,
+        };
+        let table = rules.table(&store);
+        let table = table.map_err(|error| Failure::input(file.name, FileError::from(error)))?;
+        self.write("-", table.as_bytes())
+    }
+
+    fn explain_value<'a>(
+        &self,
+        url: &Url,
+        value: &str,
+        suffixes: Option<SuffixFile<'a>>,
+        context: Option<Context>,
+    ) -> Result<(), Failure<'a>> {
+        let mut store = self.new_store();
+        if let Some(list) = self.list(suffixes)? {
+            store.set_suffix_list(list);
+        }
+        let text = match self.insert(&mut store, value, url, context) {
+            Ok(()) => stored(&store, self.now)?,
+            Err(Failure::Rejected(error)) => rejection(
+                self.alloc.alloc,
+                value,
+                syntax(context),
+                error,
+            )?,
+            Err(failure) => return Err(failure),
+        };
+        self.write("-", text.as_bytes())
+    }
+
     fn set<'a>(
         &self,
         url: &Url,
         value: &str,
         file: CookieFile<'a>,
         suffixes: Option<SuffixFile<'a>>,
-        is_strict: bool,
+        context: Option<Context>,
     ) -> Result<(), Failure<'a>> {
         self.check_replaceable(file)?;
         let list = self.list(suffixes)?;
@@ -147,11 +201,7 @@ impl<'r> Runner<'r> {
         if let Some(list) = list {
             store.set_suffix_list(list);
         }
-        if is_strict {
-            strict::parse(&mut store, value, url, self.now)?;
-        } else {
-            store.parse(value, url, self.now)?;
-        }
+        self.insert(&mut store, value, url, context)?;
         match set_cookie(&before, &store) {
             Some(cookie) => self.replace(
                 file,
@@ -161,9 +211,24 @@ impl<'r> Runner<'r> {
         }
     }
 
+    // Inserts the cookie of a header value.
+    fn insert<'a>(
+        &self,
+        store: &mut CookieStore,
+        value: &str,
+        url: &Url,
+        context: Option<Context>,
+    ) -> Result<(), Failure<'a>> {
+        match context {
+            Some(context) => strict::parse_in_context(store, value, url, context, self.now)?,
+            None => store.parse(value, url, self.now)?,
+        };
+        Ok(())
+    }
+
     fn remove<'a>(&self, file: CookieFile<'a>, key: Key<'a>) -> Result<(), Failure<'a>> {
         self.check_replaceable(file)?;
-        let old = self.read(file)?;
+        let old = self.read(file.name)?;
         let mut store = self.well_formed(file, old.as_slice())?;
         let domain = named_domain(&store, key.domain)?;
         match store.remove(domain.as_str(), key.path, key.name) {
@@ -174,7 +239,7 @@ impl<'r> Runner<'r> {
 
     fn purge<'a>(&self, file: CookieFile<'a>, purge: Purge<'a>) -> Result<(), Failure<'a>> {
         self.check_replaceable(file)?;
-        let old = self.read(file)?;
+        let old = self.read(file.name)?;
         let mut store = self.well_formed(file, old.as_slice())?;
         let domain = match purge.domain {
             Some(domain) => Some(named_domain(&store, domain)?),
@@ -187,12 +252,11 @@ impl<'r> Runner<'r> {
 
     fn convert<'a>(
         &self,
-        input: CookieFile<'a>,
+        input: InputFile<'a>,
         output: CookieFile<'a>,
-        skips_malformed: bool,
         skips_unrepresentable: bool,
     ) -> Result<(), Failure<'a>> {
-        let store = self.load(input, skips_malformed)?;
+        let store = self.load(input)?;
         if !output.format.is_cookies_txt() {
             return self.replace(output, written_cookies(output.format, &store));
         }
@@ -210,18 +274,41 @@ impl<'r> Runner<'r> {
         )
     }
 
-    // Reads the cookies of a file. Malformed lines are an error, or are left out and named.
-    fn load<'a>(
-        &self,
-        file: CookieFile<'a>,
-        skips_malformed: bool,
-    ) -> Result<CookieStore, Failure<'a>> {
-        let contents = self.read(file)?;
-        if skips_malformed {
-            return self.well_formed(file, contents.as_slice());
+    // Reads the cookies of a file. Malformed lines and items are an error, or are left out and named.
+    fn load<'a>(&self, file: InputFile<'a>) -> Result<CookieStore, Failure<'a>> {
+        let contents = self.read(file.name)?;
+        let format = match file.format {
+            InputFormat::File(format) => format,
+            InputFormat::Export(export) => return self.exported(file, export, contents.as_slice()),
+        };
+        if file.skips_malformed {
+            let name = file.name;
+            return self.well_formed(CookieFile { name, format }, contents.as_slice());
         }
-        let store = read_cookies(self.alloc, file.format, contents.as_slice());
+        let store = read_cookies(self.alloc, format, contents.as_slice());
         store.map_err(|error| Failure::input(file.name, error.with_skip_option()))
+    }
+
+    // Reads the cookies of an export, and says how many are partitioned, which are left out.
+    fn exported<'a>(
+        &self,
+        file: InputFile<'a>,
+        export: Export,
+        contents: &[u8],
+    ) -> Result<CookieStore, Failure<'a>> {
+        let exported = read_exported(self.alloc, export, contents, self.now);
+        let exported = exported.map_err(|error| Failure::input(file.name, error))?;
+        for item in exported.malformed.iter() {
+            if !file.skips_malformed {
+                return Err(Failure::input(file.name, FileError::MalformedItem(*item)));
+            }
+            self.say(input_name(file.name), Note::MalformedItem(*item))?;
+        }
+        self.say(
+            input_name(file.name),
+            Note::Partitioned(exported.partitioned),
+        )?;
+        Ok(exported.store)
     }
 
     // Reads the cookies of the well-formed lines of a file, and names the others.
@@ -259,11 +346,17 @@ impl<'r> Runner<'r> {
     }
 
     // Reads a file.
-    fn read<'a>(&self, file: CookieFile<'a>) -> Result<Vec<u8>, Failure<'a>> {
-        match files::read(self.rt, file.name) {
+    fn read<'a>(&self, name: &'a str) -> Result<Vec<u8>, Failure<'a>> {
+        match files::read(self.rt, name) {
             Ok(contents) => Ok(contents),
-            Err(error) => Err(Failure::input(file.name, FileError::System(error))),
+            Err(error) => Err(Failure::input(name, FileError::System(error))),
         }
+    }
+
+    // Returns a store without cookies.
+    fn new_store(&self) -> CookieStore {
+        let StoreAlloc { alloc, hash_key } = self.alloc;
+        CookieStore::with_hash_key(alloc, hash_key)
     }
 
     // Reads the cookies of a file and what it holds: none and nothing if it does not exist.
@@ -271,8 +364,7 @@ impl<'r> Runner<'r> {
         match files::read(self.rt, file.name) {
             Ok(old) => Ok((self.well_formed(file, old.as_slice())?, old)),
             Err(error) if error.kind() == io::ErrorKind::NotFound => {
-                let StoreAlloc { alloc, hash_key } = self.alloc;
-                Ok((CookieStore::with_hash_key(alloc, hash_key), Vec::new(alloc)))
+                Ok((self.new_store(), Vec::new(self.alloc.alloc)))
             }
             Err(error) => Err(Failure::input(file.name, FileError::System(error))),
         }
@@ -331,4 +423,24 @@ fn clock<'a>(rt: &HostRuntime) -> Result<DateTime, Failure<'a>> {
         Ok(now) => Ok(Offset::UTC.to_datetime(now)),
         Err(_) => Err(Failure::Clock),
     }
+}
+
+// Returns how a header value is read, by the rules of browsers or not.
+fn syntax(context: Option<Context>) -> Syntax {
+    if context.is_some() {
+        Syntax::Rfc6265bis
+    } else {
+        Syntax::Rfc6265
+    }
+}
+
+// Returns what is stored of a header value.
+fn stored<'a>(store: &CookieStore, now: DateTime) -> Result<String, Failure<'a>> {
+    let mut text = String::from_str(store.allocator(), "stored\n")?;
+    match table(store, now) {
+        Ok(table) => text.push_str(table.as_str())?,
+        // the cookie has not expired, so that its expiry has a text: the error is out of memory
+        Err(_) => return Err(Failure::Memory),
+    }
+    Ok(text)
 }

@@ -6,45 +6,27 @@ ghost use Rattle.cookie_parts.specs.Views.{domain_value, expiry_value};
 ghost use Rattle.cookies.specs.Cells.{cells_of, domain_cell, expiry_cell, flags_cell, same_site_flag, value_cell, with_flag};
 ghost use Rattle.cookies.specs.Escapes.{is_escaped};
 
+use crate::columns::{COLUMNS, Cells, columns};
 use crate::escape::{escaped, push_escaped};
 use cookie_store::raw::SameSite;
 use cookie_store::saved::moment_text;
 use cookie_store::{Cookie, CookieDomain, CookieExpiration, CookieStore, Error, RawCookie};
 use jiff::civil::DateTime;
 use std::alloc::{AllocError, Global};
-use unicode_width::UnicodeWidthStr;
 
 /// The number of characters of a value that are shown.
 const SHOWN_CHARS: usize = 40;
 
-/// The most columns of a terminal that cells are aligned to.
-const ALIGNED_WIDTH: usize = 80;
-
-/// The number of columns.
-const COLUMNS: usize = 6;
-
 /// The headings of the columns.
 const HEADINGS: [&str; COLUMNS] = ["DOMAIN", "PATH", "NAME", "VALUE", "EXPIRES", "FLAGS"];
 
-/// The cells of a row.
-type Row = [String; COLUMNS];
-
 /// Returns the table of all cookies in the store's order, a heading first.
 pub fn table(store: &CookieStore, now: DateTime) -> Result<String, Error> {
-    let alloc = store.allocator();
-    let rows = rows(store, now)?;
-    let widths = widths(&rows);
-    let mut out = String::new(alloc);
-    push_line(&mut out, &HEADINGS, &widths)?;
-    for row in &rows {
-        let cells = row.each_ref().map(|cell| cell.as_str());
-        push_line(&mut out, &cells, &widths)?;
-    }
-    Ok(out)
+    Ok(columns(store.allocator(), &HEADINGS, &rows(store, now)?)?)
 }
 
 // Returns a row for each cookie.
-fn rows(store: &CookieStore, now: DateTime) -> Result<Vec<Row>, Error>
+fn rows(store: &CookieStore, now: DateTime) -> Result<Vec<Cells>, Error>
     ensures { IfOk result (λ rows. map (map string_bytes) rows.items ≡ map (cells_of (moment_of now)) store.now.rows) }
 {
     let alloc = store.allocator();
@@ -56,7 +38,7 @@ fn rows(store: &CookieStore, now: DateTime) -> Result<Vec<Row>, Error>
 }
 
 // Returns the cells of a cookie.
-fn row(alloc: Global, cookie: &Cookie<'_>, now: DateTime) -> Result<Row, Error>
+fn row(alloc: Global, cookie: &Cookie<'_>, now: DateTime) -> Result<Cells, Error>
     ensures { IfOk result (λ cells. map string_bytes cells ≡ cells_of (moment_of now) cookie.now) }
 {
     Ok([
@@ -69,8 +51,8 @@ fn row(alloc: Global, cookie: &Cookie<'_>, now: DateTime) -> Result<Row, Error>
     ])
 }
 
-// Returns a domain, after a dot if it is that of a domain cookie.
-fn domain_cell(alloc: Global, domain: &CookieDomain) -> Result<String, AllocError>
+/// Returns a domain, after a dot if it is that of a domain cookie.
+pub fn domain_cell(alloc: Global, domain: &CookieDomain) -> Result<String, AllocError>
     ensures value { IfOk result (λ cell. string_bytes cell ≡ domain_cell (domain_value domain.now)) }
     ensures safe { IfOk result (λ cell. NoCharPasses is_escaped (string_bytes cell)) }
 {
@@ -99,8 +81,8 @@ fn value_cell(alloc: Global, value: &str) -> Result<String, AllocError>
     Ok(cell)
 }
 
-// Returns an expiry, with a mark if it has passed.
-fn expiry_cell(alloc: Global, expires: CookieExpiration, now: DateTime) -> Result<String, Error>
+/// Returns an expiry, with a mark if it has passed.
+pub fn expiry_cell(alloc: Global, expires: CookieExpiration, now: DateTime) -> Result<String, Error>
     ensures { IfOk result (λ cell. string_bytes cell ≡ expiry_cell (moment_of now) (expiry_value expires)) }
 {
     let CookieExpiration::AtUtc(moment) = expires else {
@@ -113,8 +95,8 @@ fn expiry_cell(alloc: Global, expires: CookieExpiration, now: DateTime) -> Resul
     Ok(cell)
 }
 
-// Returns the flags of a cookie between commas, or `-` if it has none.
-fn flags_cell(alloc: Global, raw: &RawCookie<'_>) -> Result<String, AllocError>
+/// Returns the flags of a cookie between commas, or `-` if it has none.
+pub fn flags_cell(alloc: Global, raw: &RawCookie<'_>) -> Result<String, AllocError>
     ensures { IfOk result (λ cell. string_bytes cell ≡ flags_cell raw.now) }
 {
     let mut cell = String::new(alloc);
@@ -151,42 +133,4 @@ fn same_site_flag(same_site: SameSite) -> &'static str
         SameSite::Lax => "samesite=lax",
         SameSite::None => "samesite=none",
     }
-}
-
-// Returns the width of each column.
-fn widths(rows: &[Row]) -> [usize; COLUMNS] {
-    let mut widths = HEADINGS.map(|heading| heading.width());
-    for row in rows {
-        widen(&mut widths, row);
-    }
-    widths
-}
-
-// Widens the columns that are too narrow for the cells.
-fn widen(widths: &mut [usize; COLUMNS], row: &Row) {
-    for (width, cell) in widths.iter_mut().zip(row) {
-        *width = cell.as_str().width().min(ALIGNED_WIDTH).max(*width);
-    }
-}
-
-// Appends a line with these cells: each but the last fills its column, and two spaces follow it.
-fn push_line(
-    out: &mut String,
-    cells: &[&str; COLUMNS],
-    widths: &[usize; COLUMNS],
-) -> Result<(), AllocError> {
-    let mut gap = 0;
-    for (cell, width) in cells.iter().zip(widths) {
-        push_spaces(out, gap)?;
-        out.push_str(cell)?;
-        gap = width.saturating_sub(cell.width()).saturating_add(2);
-    }
-    out.push('\n')
-}
-
-fn push_spaces(out: &mut String, count: usize) -> Result<(), AllocError> {
-    for _ in 0..count {
-        out.push(' ')?;
-    }
-    Ok(())
 }

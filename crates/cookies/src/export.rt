@@ -1,0 +1,106 @@
+//! Files that extensions of browsers and Playwright export.
+ghost use Rattle.std.specs.Prelude.{◌≡◌};
+ghost use Rattle.cookies.specs.ExportItems.{expiry_name};
+
+use crate::error::FileError;
+use crate::export_item::{is_partitioned, read_cookie};
+use crate::format::Export;
+use cookie_store::saved::SavedError;
+use cookie_store::{Cookie, CookieStore, Error, StoreAlloc};
+use jiff::civil::DateTime;
+use serde_json::Value;
+use std::alloc::{AllocError, Global};
+
+/// What an export holds.
+#[derive(Drop)]
+pub struct Exported {
+    /// The cookies.
+    pub store: CookieStore,
+    /// The numbers of the items that are not cookies, counted from 1.
+    pub malformed: Vec<usize>,
+    /// How many items are partitioned cookies, which a store would send with requests of every site.
+    pub partitioned: usize,
+}
+
+/// Reads the cookies of an export, expired ones and session cookies included. Of cookies with the same
+/// domain, path and name the last is kept.
+pub fn read_exported(
+    alloc: StoreAlloc,
+    export: Export,
+    contents: &[u8],
+    now: DateTime,
+) -> Result<Exported, FileError> {
+    let json = read_json(alloc, contents)?;
+    let Some(items) = list_of(export, &json) else {
+        return Err(FileError::NotExported(export));
+    };
+    let Items {
+        cookies,
+        malformed,
+        partitioned,
+    } = read_items(alloc.alloc, export, items)?;
+    Ok(Exported {
+        store: CookieStore::from_cookies(alloc, cookies.into_iter(), true, now)?,
+        malformed,
+        partitioned,
+    })
+}
+
+// The cookies of an export, and what is left out.
+#[derive(Drop)]
+struct Items {
+    cookies: Vec<Result<Cookie<'static>, Error>>,
+    malformed: Vec<usize>,
+    partitioned: usize,
+}
+
+// Reads the items of an export.
+fn read_items(alloc: Global, export: Export, items: &[Value]) -> Result<Items, AllocError> {
+    let expiry = expiry_name(export);
+    let mut cookies = Vec::new(alloc);
+    let mut malformed = Vec::new(alloc);
+    let mut partitioned: usize = 0;
+    for (index, item) in items.iter().enumerate() {
+        match read_cookie(alloc, item, expiry)? {
+            Some(_) if is_partitioned(item) => partitioned = partitioned.saturating_add(1),
+            Some(cookie) => cookies.push(Ok(cookie))?,
+            None => malformed.push(index.saturating_add(1))?,
+        }
+    }
+    Ok(Items {
+        cookies,
+        malformed,
+        partitioned,
+    })
+}
+
+// Reads a value in JSON.
+fn read_json(alloc: StoreAlloc, contents: &[u8]) -> Result<Value, FileError> {
+    let Ok(text) = str::from_utf8(contents) else {
+        return Err(FileError::from(Error::NotUtf8));
+    };
+    match Value::from_str(alloc.alloc, text) {
+        Ok(value) => Ok(value),
+        Err(error) if error.is_memory() => Err(FileError::from(Error::Memory)),
+        Err(_) => Err(FileError::from(Error::Saved(SavedError::Json))),
+    }
+}
+
+// Returns the items of an export, or `None` if it has no list of them.
+fn list_of(export: Export, json: &Value) -> Option<&[Value]> {
+    let list = match export {
+        Export::Browser => json.as_array()?,
+        Export::Playwright => json.get("cookies")?.as_array()?,
+    };
+    Some(list.as_slice())
+}
+
+// Returns the name of the member that has the expiry.
+fn expiry_name(export: Export) -> &'static str
+    ensures { result.now ≡ expiry_name export }
+{
+    match export {
+        Export::Browser => "expirationDate",
+        Export::Playwright => "expires",
+    }
+}
