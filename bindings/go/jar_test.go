@@ -111,7 +111,10 @@ func TestParseErrors(t *testing.T) {
 		{strict, "https://example.com/", "a=1; SameSite=None", ErrInsecureSameSiteNone},
 		{strict, "https://example.com/", "__Host-a=1; Path=/", ErrPrefix},
 		{strict, "https://example.com/", "__Http-a=1; Secure", ErrPrefix},
+		{strict, "https://example.com/", "__Host-Http-a=1; Secure; HttpOnly", ErrPrefix},
 		{strict, "https://example.com/", "a=1; Domain=example.com\u00a0", ErrDomainMismatch},
+		{strict, "https://example.com/", "a=1; Domain=. example.com", ErrDomainMismatch},
+		{strict, "https://example.com/", "a=1; Domain=example.com; Domain=other.com", ErrDomainMismatch},
 		{strict, "http://example.com/", "stored=2", ErrSecureStored},
 		{full, "https://example.com/", "a=1", ErrSecureLimit},
 		{sites, "https://shop.s3.example.com/", "a=1; Domain=example.com", ErrPublicSuffix},
@@ -130,6 +133,31 @@ func TestParseErrors(t *testing.T) {
 		}
 		if jar.Len() != 1 {
 			t.Errorf("%s: %d cookies, want the one stored before", name, jar.Len())
+		}
+	}
+}
+
+// A strict jar reads header values as browsers do.
+func TestStrictHeader(t *testing.T) {
+	for _, row := range []struct{ from, value, plain, strict string }{
+		{"http://example.com/", "a=1\u00a0", "a=1", "a=1\u00a0"},
+		{"http://example.com/", "\u3000a=1", "a=1", "\u3000a=1"},
+		{"http://example.com/", "a=1; Max-Age=60; Max-Age=-", "", "a=1"},
+		{"http://example.com/x", "a=1; Path=/x\u00a0", "a=1", ""},
+		{"http://a.localhost/", "a=1; Secure", "", "a=1"},
+		{"http://localhost./", "a=1; Secure", "", "a=1"},
+		{"https://example.com/", "__Http-a=1; Secure; HttpOnly", "__Http-a=1", "__Http-a=1"},
+		{"https://example.com/", "__Host-Http-a=1; Secure; HttpOnly; Path=/", "__Host-Http-a=1", "__Host-Http-a=1"},
+	} {
+		for _, strict := range []bool{false, true} {
+			jar, want := newJar(t, &Options{Strict: strict}), row.plain
+			if strict {
+				want = row.strict
+			}
+			if err := jar.Parse(parseURL(t, row.from), row.value); err != nil && !errors.Is(err, ErrExpired) {
+				t.Errorf("strict %v: Parse(%q): %v", strict, row.value, err)
+			}
+			expectHeader(t, jar, row.from, want)
 		}
 	}
 }

@@ -36,11 +36,14 @@ from common import ROOT, compile_c, install, stop
 
 OPTIONS = ['--archive']
 HOSTS, EACH = 50, 20
+LARGE_HOSTS = 5000  # of a large store
 NOW = 1767225600  # 2026-01-01T00:00:00
 SECONDS = 0.2  # that a run takes
 LINES = 100_000  # of a cookies.txt file
 NODE_COOKIES = [1000, 100_000]
-STRICT = {'set': ('set_strict', 'set a cookie', 1.3), 'get_many': ('get_strict', f'header, {EACH} cookies a host', 1.2)}
+STRICT = {'set': ('set_strict', 'set a cookie', 1.3), 'get_many': ('get_strict', f'header, {EACH} cookies a host', 1.2),
+          'set_large': ('set_large_strict', f'set one of {LARGE_HOSTS * EACH:,} cookies', 1.3),
+          'get_large': ('get_large_strict', f'header, of {LARGE_HOSTS * EACH:,} cookies', 1.2)}
 RESPONSE = f'set the {EACH} cookies of a response'
 HEADERS = [f'c{number}=value{number}; Path=/; Max-Age=86400' for number in range(EACH)]
 
@@ -51,7 +54,7 @@ def add_arguments(parser):
 
 def build(folder, archive):
     """Installs the library, and builds the program in C."""
-    prefix, defined = f'{folder}/prefix', {'HOSTS': HOSTS, 'EACH': EACH, 'NOW': NOW, 'SECONDS': SECONDS}
+    prefix, defined = f'{folder}/prefix', {'HOSTS': HOSTS, 'LARGE_HOSTS': LARGE_HOSTS, 'EACH': EACH, 'NOW': NOW, 'SECONDS': SECONDS}
     install(prefix, archive)
     program = compile_c(f'{folder}/calls', '-std=c11', 'tools/bench_parts/calls.c', '-I', f'{prefix}/include',
                         '-L', f'{prefix}/lib', '-lcookie_store', f'-Wl,-rpath,{prefix}/lib',

@@ -38,19 +38,29 @@ def tables(document):
             yield title, [[cell.strip() for cell in line.strip('|').split('|')] for line in block.strip().split('\n')]
 
 
+def run_of(document):
+    """The first fields of a run's ratios, by its docs/FIGURES.md."""
+    (_, circumstances), *_ = tables(document)
+    found = dict(circumstances)
+    processor, processors = found['machine'].rsplit(', ', 1)
+    return found['date'], found['commit'], processor, processors.split()[0]
+
+
+def ratio_of(*fields):
+    return Ratio(*(field.replace(',', '') for field in fields))
+
+
 def ratios(document):
     """The ratios in the tables of a docs/FIGURES.md."""
-    (_, circumstances), *others = tables(document)
-    of_run = dict(circumstances)
-    run = [of_run['date'], of_run['commit'], *of_run['machine'].rsplit(', ', 1)]
-    run[-1] = run[-1].split()[0]
+    _, *others = tables(document)
+    run = run_of(document)
     for title, (heads, _, *rows) in others:
         for cells in rows if OWN in heads else []:
             first = heads.index(OWN)
             row = cells[0] if first == 1 else ' '.join(f'{cell} {head}' for head, cell in zip(heads, cells[:first]))
             for head, cell in zip(heads, cells):
                 if head.endswith(MARK) and cell != '-':
-                    yield Ratio(*(field.replace(',', '') for field in (*run, title, row, head[:-len(MARK)], cell)))
+                    yield ratio_of(*run, title, row, head[:-len(MARK)], cell)
 
 
 def known():
@@ -58,16 +68,16 @@ def known():
     return [Ratio(*line.split(',')) for line in read(HISTORY).splitlines()[1:]]
 
 
-def fallen(document):
-    """A line for each ratio of a docs/FIGURES.md that fell by more than a tenth since its last one on a machine of the same kind."""
+def fallen(found):
+    """A line for each of these ratios that fell by more than a tenth since its last one on a machine of the same kind."""
     last = {each.kind(): each for each in known()}
-    for new in ratios(document):
+    for new in found:
         old = last.get(new.kind())
         if old and Decimal(new.ratio) < LEAST * Decimal(old.ratio):
             yield f'{new.table}, {new.row}: the ratio to {new.peer} fell from {old.ratio}, of {old.date} at {old.commit}, to {new.ratio}.'
 
 
-def append(document):
-    """Adds the ratios of a docs/FIGURES.md to docs/figures.csv."""
+def append(found):
+    """Adds ratios to docs/figures.csv."""
     with open(HISTORY, 'a', encoding='utf-8') as file:
-        file.writelines(f'{",".join(astuple(each))}\n' for each in ratios(document))
+        file.writelines(f'{",".join(astuple(each))}\n' for each in found)

@@ -1,13 +1,16 @@
 """The other commands of tools/bench, which `stores --write` runs."""
 import contextlib
+import json
 import os
 import signal
 import subprocess
+import tempfile
 
-from common import ROOT
+from common import ROOT, read
 
 MINUTES = 8  # after which a command is stopped
 BEHIND = 'Warning: '  # begins the lines of a command that found a peer ahead, and has printed its figures
+RATIOS = 'BENCH_RATIOS'  # the variable that names the file of a command's ratios: a figure, a peer and a ratio in JSON a line
 COMMANDS = [f'tools/bench {words}' for words in
             ('requests 50 20 2000', 'convert 10000 100000', 'bindings', 'sites', 'lists 10000', 'header')]
 
@@ -16,6 +19,13 @@ def environment(program, archive, lists):
     """The variables by which the commands find their programs."""
     found = {'COOKIE_JAR': program, 'COOKIE_STORE_ARCHIVE': archive, 'COOKIE_LISTS': lists}
     return {**os.environ, **{name: os.path.realpath(path) for name, path in found.items() if path}}
+
+
+def measured(command, variables):
+    """What the command prints, and the ratios that it records."""
+    with tempfile.NamedTemporaryFile('w+', encoding='utf-8') as file:
+        printed = run(command, {**variables, RATIOS: file.name})
+        return printed, list(map(json.loads, read(file.name).splitlines()))
 
 
 def run(command, variables):

@@ -1,12 +1,13 @@
 """Tables of figures, as text and as Markdown, the document and the chart."""
 import datetime
+import json
 import os
 import platform
 import sys
 import textwrap
 from dataclasses import dataclass, field
 
-from bench_parts.others import BEHIND, MINUTES
+from bench_parts.others import BEHIND, MINUTES, RATIOS
 from common import ROOT, commit, machine, output
 
 IDLE = 0.5  # the greatest load average of an idle machine
@@ -61,7 +62,11 @@ def ratio(peer, own):
 
 
 def behind(figure, peer, value):
-    """A warning if the peer is faster or smaller by more than figures differ from run to run."""
+    """A warning if the peer is faster or smaller by more than figures differ from run to run. A command that `stores --write` runs
+    records the ratio."""
+    if value is not None and RATIOS in os.environ:
+        with open(os.environ[RATIOS], 'a', encoding='utf-8') as file:
+            file.write(f'{json.dumps([figure, peer, f"{value:.2f}"])}\n')
     if value is not None and value < SLOWEST:
         yield f'{BEHIND}{peer} is ahead: {figure}, ratio {value:.2f}.'
 
@@ -109,8 +114,10 @@ scripts.
 - All figures are of one run on one machine. Compare the ratios, not the times, with those of
   another.
 - [figures.csv](figures.csv) has the ratios of each run, one a line, without the commas of numbers
-  and names. `tools/bench --write` appends them. If one fell by more than a tenth since the last run
-  on such a machine (processor, and number of them), nothing is written, unless `--accept` is given.
+  and names; those of the other commands have the command for their table. `tools/bench --write`
+  appends them. If one fell by more than a tenth since the last run on such a machine (processor, and
+  number of them), nothing is written, or of another command no ratio is appended, unless `--accept`
+  is given.
 '''
 
 REPEAT = '''

@@ -3,12 +3,12 @@ Usage: tools/bench [stores] [--write [--accept] | --only PART]
 
 Prints the time of a set, a replaced cookie, a get and a removal, of a set under a domain limit, bytes and instructions, and how
 the time of hostile inputs grows. A peer that cannot be built is left out, and a line says so. --write runs the other commands
-too, and writes docs/FIGURES.md before the first of them and after each. It appends the ratios to docs/figures.csv. If one is
-below nine tenths of the last one there of the same table, row and peer on a machine of the same kind, it prints both and
-writes nothing, unless --accept is given.
+too, and writes docs/FIGURES.md before the first of them and after each. It appends the ratios, also theirs, to
+docs/figures.csv. If one is below nine tenths of the last one there of the same table, row and peer on a machine of the same kind,
+it prints both and writes nothing, or of the other commands appends no ratio, unless --accept is given.
 
 Exit status: 0; 1 if the time of a hostile input grows faster than linearly, if a peer is ahead on an idle machine, if
-a ratio fell so that nothing was written, or if a program fails; 2 for a wrong argument."""
+a ratio fell so that it was not written, or if a program fails; 2 for a wrong argument."""
 import os
 import sys
 import tempfile
@@ -207,22 +207,33 @@ def add_arguments(parser):
 
 def publish(document, panels, accept):
     """Writes the document and the chart, and appends the ratios, unless one fell and that is not accepted."""
-    fallen = list(history.fallen(document.markdown()))
+    found = list(history.ratios(document.markdown()))
+    check_fallen(found, accept)
+    report.write_chart(panels)
+    document.write()
+    history.append(found)
+
+
+def check_fallen(found, accept):
+    """Stops if one of the ratios fell, unless that is accepted."""
+    fallen = list(history.fallen(found))
     print(*fallen, sep='\n', end='\n' if fallen else '')
     if fallen and not accept:
         stop('nothing is written: --accept writes the figures as they are')
-    report.write_chart(panels)
-    document.write()
-    history.append(document.markdown())
 
 
-def add_others(document, variables):
-    """Runs the other commands, and writes the document after each."""
+def add_others(document, variables, accept):
+    """Runs the other commands, writes the document after each, and appends their ratios."""
+    found = []
     for command in others.COMMANDS:
         print(command, flush=True)
-        document.sections.append((command, others.run(command, variables)))
-        print(document.sections[-1][1], end='\n\n', flush=True)
+        printed, ratios = others.measured(command, variables)
+        document.sections.append((command, printed))
+        print(printed, end='\n\n', flush=True)
         document.write()
+        found += [history.ratio_of(*history.run_of(document.markdown()), command, *each) for each in ratios]
+    check_fallen(found, accept)
+    history.append(found)
 
 
 def run(options):
@@ -240,6 +251,6 @@ def run(options):
             document.tables.append(each)
     if options.write:
         publish(document, chart_panels(took, measured), options.accept)
-        add_others(document, others.environment(options.program, options.archive or ARCHIVE, options.lists))
+        add_others(document, others.environment(options.program, options.archive or ARCHIVE, options.lists), options.accept)
     behind = [warning for each in document.tables for warning in each.behind]
     sys.exit(any(each.warnings for each in document.tables) or report.fails(behind, load))

@@ -4,7 +4,7 @@ const { test } = require('node:test');
 const { setImmediate } = require('node:timers/promises');
 const v8 = require('node:v8');
 const vm = require('node:vm');
-const { CookieStore } = require('pulleymaroon');
+const { CookieJar, CookieStore } = require('pulleymaroon');
 const { outcome } = require('./support');
 
 const MEGABYTE = 2 ** 20;
@@ -39,6 +39,7 @@ test('a million calls leave no memory behind', async () => {
   const [few, many] = [new CookieStore(), new CookieStore()];
   for (const name of ['a', 'b', 'c']) few.parse(URL_A, `${name}=1`);
   for (let at = 0; at < 30; at++) many.parse(URL_A, `n${at}=${long}`);
+  const [listed, jar] = [new CookieStore({ suffixList: 'example\n' }), new CookieJar()];
   const list = few.save({ which: 'all' });
   // A leak of what a call allocates would be more than the 20 MB by which a process may grow without one.
   const rows = [
@@ -50,10 +51,17 @@ test('a million calls leave no memory behind', async () => {
     ['an error', 100000, () => outcome(() => few.header('x'))],
     ['a TypeError', 100000, () => outcome(() => few.parse(URL_A))],
     ['cookiesFor', 100000, () => few.cookiesFor(URL_A)],
+    ['insert and remove', 50000, (at) => few.insert({ name: 'd', value: `${at}`, domain: 'a.example' }) && few.remove('a.example', '/', 'd')],
+    ['removeDomain and removeExpired', 50000, () => few.removeDomain('b.example') + few.removeExpired()],
+    ['merge', 50000, () => listed.merge(few)],
+    ['root', 50000, () => listed.root(URL_A)],
+    ['a header of a page', 50000, () => listed.header(URL_A, { page: 'http://b.example/' })],
+    ['a jar', 50000, (at) => jar.setCookieSync(`a=${at}`, URL_A) && jar.getCookieStringSync(URL_A)],
     ['parse of a long string', 100000, () => few.parse(URL_A, long)],
     ['a long header', 10000, () => many.header(URL_A)],
     ['many cookies', 3000, () => many.cookies()],
     ['save and load', 20000, () => CookieStore.load(list).save({ which: 'all' })],
+    ['lenient save and load', 20000, () => CookieStore.loadLenient('a\tb').store.saveLenient({ which: 'all' })],
     ['clone and close', 20000, () => few.clone().close()],
     ['stores that are not closed', 50000, () => new CookieStore().parse(URL_A, `a=${long}`)],
   ];

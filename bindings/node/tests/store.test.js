@@ -420,3 +420,10 @@ test('import and require have the same names', async () => {
   assert.deepEqual(Object.keys(imported).filter((name) => name !== 'default').sort(), Object.keys(require('pulleymaroon')).sort());
   assert.equal(imported.CookieStore, CookieStore);
 });
+
+test('index.d.ts declares each name', () => {
+  const declarations = readFileSync(path.join(PACKAGE, 'index.d.ts'), 'utf8');
+  for (const name of Object.keys(require('pulleymaroon'))) {
+    assert.match(declarations, new RegExp(`^export (?:class|function|const) ${name}\\b`, 'm'), name);
+  }
+});

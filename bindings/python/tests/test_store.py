@@ -72,9 +72,23 @@ STRICT_SETS = [
     ('https://a.example/d/page', 's=1; Secure', Status.INSERTED),
     (PAGE, 's=2', Status.SECURE_STORED),
     ('https://a.example/d/page', 'd=1; Domain=a.example\xa0', Status.DOMAIN_MISMATCH),
+    ('https://a.example/d/page', 'd=1; Domain=. a.example', Status.DOMAIN_MISMATCH),
+    ('https://a.example/d/page', 'd=1; Domain=a.example; Domain=b.example', Status.DOMAIN_MISMATCH),
     ('https://a.example/d/page', '__Http-h=1; Secure', Status.PREFIX),
     ('https://a.example/d/page', '__Http-h=1; Secure; HttpOnly', Status.INSERTED),
+    ('https://a.example/d/page', '__Host-Http-h=1; Secure; HttpOnly', Status.PREFIX),
+    ('https://a.example/d/page', '__Host-Http-h=1; Secure; HttpOnly; Path=/', Status.INSERTED),
     ('http://a.localhost/', 's=1; Secure', Status.INSERTED),
+]
+
+# The header of a URL after a value was received from it, without and with the rules of browsers.
+READ = [
+    ('http://a.example/', 'a=1\xa0', 'a=1', 'a=1\xa0'),
+    ('http://a.example/', '\u3000a=1', 'a=1', '\u3000a=1'),
+    ('http://a.example/', 'a=1; Max-Age=60; Max-Age=-', '', 'a=1'),
+    ('http://a.example/x', 'a=1; Path=/x\xa0', 'a=1', ''),
+    ('http://a.localhost/', 'a=1; Secure', '', 'a=1'),
+    ('http://localhost./', 'a=1; Secure', '', 'a=1'),
 ]
 
 # Arguments of header() for a request from another site, and the cookies that it has: with SameSite
@@ -242,6 +256,13 @@ class StoreTests(unittest.TestCase):
             store.set_strict(False)
             self.assertIs(store.parse(PAGE, 's=2', NOW), Status.UPDATED)
         self.assertIs(CookieStore().parse(PAGE, 's=1; Secure', NOW), Status.INSERTED)
+
+    def test_strict_reading(self):
+        for url, text, plain, strict in READ:
+            for is_strict, wanted in ((False, plain), (True, strict)):
+                store = CookieStore(strict=is_strict)
+                store.parse(url, text, NOW)
+                self.assertEqual(store.header(url, NOW) or '', wanted, (url, text, is_strict))
 
     def test_cross_site(self):
         store = filled('n=1; SameSite=None; Path=/d', 'u=1; Path=/d', 'l=1; SameSite=Lax', 's=1; SameSite=Strict')

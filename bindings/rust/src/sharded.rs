@@ -3,7 +3,7 @@
 use std::collections::HashMap;
 use std::fmt;
 use std::num::NonZeroU32;
-use std::sync::{Mutex, MutexGuard, PoisonError};
+use std::sync::{Mutex, MutexGuard, PoisonError, RwLock};
 
 use crate::{shard, CookieStore, Error};
 
@@ -35,17 +35,12 @@ const MOST_ORIGINS: usize = 1 << 14;
 /// # Ok::<(), pulleymaroon::Error>(())
 /// ```
 pub struct ShardedStore {
+    count: NonZeroU32,
     shards: Vec<Mutex<CookieStore>>,
-    roots: Mutex<Roots>,
-}
-
-/// Finds the shards of roots.
-struct Roots {
-    /// Without cookies, and with the list.
-    store: CookieStore,
-    shards: NonZeroU32,
-    /// The shards of origins that were found before.
-    known: HashMap<String, u32>,
+    /// The shards of origins that were found before: calls for them do not exclude each other.
+    known: RwLock<HashMap<String, u32>>,
+    /// A store without cookies, and with the list, that finds roots.
+    roots: Mutex<CookieStore>,
 }
 
 impl ShardedStore {
@@ -56,18 +51,14 @@ impl ShardedStore {
     /// [`Error::NoList`] if the store has no public suffix list, [`Error::NoMemory`].
     pub fn new(mut store: CookieStore, shards: NonZeroU32) -> Result<ShardedStore, Error> {
         store.set_strict(true);
-        let mut roots = Roots {
-            store: store.try_clone()?,
-            shards,
-            known: HashMap::new(),
-        };
-        roots.store.clear();
+        let mut roots = store.try_clone()?;
+        roots.clear();
         let mut stores = vec![store];
         for _ in 1..shards.get() {
             stores.push(stores[0].try_clone()?);
         }
         for cookie in stores[0].cookies()? {
-            let own = roots.of_domain(&cookie.domain)?;
+            let own = shard(&roots.root_of_domain(&cookie.domain)?, shards);
             for (number, store) in stores.iter_mut().enumerate() {
                 if number != own as usize {
                     store.remove_domain(&cookie.domain);
@@ -75,7 +66,9 @@ impl ShardedStore {
             }
         }
         Ok(ShardedStore {
+            count: shards,
             shards: stores.into_iter().map(Mutex::new).collect(),
+            known: RwLock::default(),
             roots: Mutex::new(roots),
         })
     }
@@ -86,7 +79,7 @@ impl ShardedStore {
     ///
     /// [`Error::BadUrl`], [`Error::NoMemory`].
     pub fn lock(&self, url: &str) -> Result<MutexGuard<'_, CookieStore>, Error> {
-        let number = guard(&self.roots).of_url(url)?;
+        let number = self.number(url)?;
         Ok(guard(&self.shards[number as usize]))
     }
 
@@ -96,14 +89,38 @@ impl ShardedStore {
     ///
     /// [`Error::NoMemory`].
     pub fn lock_domain(&self, domain: &str) -> Result<MutexGuard<'_, CookieStore>, Error> {
-        let number = guard(&self.roots).of_domain(domain)?;
-        Ok(guard(&self.shards[number as usize]))
+        let root = guard(&self.roots).root_of_domain(domain)?;
+        Ok(guard(&self.shards[shard(&root, self.count) as usize]))
     }
 
     /// Locks each of the stores in turn, for the calls that are for all cookies, such as
     /// [`clear`](CookieStore::clear).
     pub fn lock_each(&self) -> impl Iterator<Item = MutexGuard<'_, CookieStore>> {
         self.shards.iter().map(guard)
+    }
+
+    /// Returns the number of the shard of a URL.
+    fn number(&self, url: &str) -> Result<u32, Error> {
+        let origin = origin(url);
+        if let Some(number) = origin.and_then(|origin| self.known_number(origin)) {
+            return Ok(number);
+        }
+        let root = guard(&self.roots).root(url)?;
+        let number = shard(&root, self.count);
+        if let Some(origin) = origin {
+            let mut known = self.known.write().unwrap_or_else(PoisonError::into_inner);
+            if known.len() == MOST_ORIGINS {
+                known.clear();
+            }
+            known.insert(origin.to_owned(), number);
+        }
+        Ok(number)
+    }
+
+    /// Returns the number of the shard of an origin, if it was found before.
+    fn known_number(&self, origin: &str) -> Option<u32> {
+        let known = self.known.read().unwrap_or_else(PoisonError::into_inner);
+        known.get(origin).copied()
     }
 }
 
@@ -112,29 +129,6 @@ impl fmt::Debug for ShardedStore {
         f.debug_struct("ShardedStore")
             .field("shards", &self.shards.len())
             .finish_non_exhaustive()
-    }
-}
-
-impl Roots {
-    /// Returns the number of the shard of a URL.
-    fn of_url(&mut self, url: &str) -> Result<u32, Error> {
-        let origin = origin(url);
-        if let Some(&number) = origin.and_then(|origin| self.known.get(origin)) {
-            return Ok(number);
-        }
-        let number = shard(&self.store.root(url)?, self.shards);
-        if let Some(origin) = origin {
-            if self.known.len() == MOST_ORIGINS {
-                self.known.clear();
-            }
-            self.known.insert(origin.to_owned(), number);
-        }
-        Ok(number)
-    }
-
-    /// Returns the number of the shard of the domain of a cookie.
-    fn of_domain(&self, domain: &str) -> Result<u32, Error> {
-        Ok(shard(&self.store.root_of_domain(domain)?, self.shards))
     }
 }
 

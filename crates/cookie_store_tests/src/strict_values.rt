@@ -15,8 +15,10 @@ use std::process::Abort;
 
 const FROM: &str = "https://site.example/app/page";
 
+const ROOT: &str = "https://site.example/";
+
 // A header value, and the cookie that is stored, as a header value.
-static STORED: [(&str, &str); 25] = [
+static STORED: [(&str, &str); 26] = [
     ("a=1\u{a0}", "a=1\u{a0}"),
     ("a=\u{3000}1", "a=\u{3000}1"),
     ("\u{a0}b=2", "\u{a0}b=2"),
@@ -31,6 +33,10 @@ static STORED: [(&str, &str); 25] = [
     ("f=6; Max-Age=-", "f=6"),
     ("f=6; Max-Age=60; Max-Age=-", "f=6; Max-Age=60"),
     ("f=6; Max-Age=60; Max-Age=x", "f=6; Max-Age=60"),
+    (
+        "f=6; Expires=Thu, 01 Jan 2099 00:00:00 GMT; Expires=x",
+        "f=6; Expires=Thu, 01 Jan 2099 00:00:00 GMT",
+    ),
     ("g=7; Domain=site.example", "g=7; Domain=site.example"),
     ("g=7; Domain=.site.example", "g=7; Domain=site.example"),
     ("g=7; Domain=site.example; Domain=", "g=7"),
@@ -81,7 +87,7 @@ const MISMATCH: StrictResult = Err(StrictError::Cookie(CookieError::DomainMismat
 const PREFIX: StrictResult = Err(StrictError::Prefix);
 
 // A URL, a header value received from it, and the result.
-static RESULTS: [(&str, &str, StrictResult); 26] = [
+static RESULTS: [(&str, &str, StrictResult); 30] = [
     (FROM, "a=1; Domain=. site.example", MISMATCH),
     (FROM, "a=1; Domain=.\tsite.example", MISMATCH),
     (FROM, "a=1; Domain=site.example\u{a0}", MISMATCH),
@@ -90,6 +96,7 @@ static RESULTS: [(&str, &str, StrictResult); 26] = [
     (FROM, "a=1; Domain=site.\u{ff45}xample", MISMATCH),
     (FROM, "a=1; Domain=SITE.example", INSERTED),
     (FROM, "a=1; Domain=other.example; Domain=", INSERTED),
+    (FROM, "a=1; Domain=.", INSERTED),
     (FROM, "\t=1", Err(StrictError::Cookie(CookieError::Parse))),
     (FROM, "\u{a0}=1", INSERTED),
     (FROM, "a=1; Max-Age=0\u{a0}", INSERTED),
@@ -97,6 +104,13 @@ static RESULTS: [(&str, &str, StrictResult); 26] = [
         FROM,
         "a=1; Max-Age=-0",
         Err(StrictError::Cookie(CookieError::Expired)),
+    ),
+    (ROOT, "__Host-a=1; Secure; Path=", PREFIX),
+    (ROOT, "__Host-a=1; Secure; Path=x", PREFIX),
+    (
+        "https://example/",
+        "__Host-a=1; Secure; Path=/; Domain=example",
+        PREFIX,
     ),
     (FROM, "__Http-a=1", PREFIX),
     (FROM, "__Http-a=1; Secure", PREFIX),

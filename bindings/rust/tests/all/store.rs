@@ -41,7 +41,7 @@ const ROWS: [Row; 18] = [
 ];
 
 /// Received one after the other by one strict store.
-const STRICT_ROWS: [Row; 11] = [
+const STRICT_ROWS: [Row; 15] = [
     (PAGE, "a=1", INSERTED),
     (PAGE, "c=\u{1}", Err(Error::ControlCharacter)),
     (PAGE, "s=1; Secure", Err(Error::InsecureUrl)),
@@ -58,9 +58,39 @@ const STRICT_ROWS: [Row; 11] = [
         "d=1; Domain=a.example\u{a0}",
         Err(Error::DomainMismatch),
     ),
+    (
+        SECURE_PAGE,
+        "d=1; Domain=. a.example",
+        Err(Error::DomainMismatch),
+    ),
+    (
+        SECURE_PAGE,
+        "d=1; Domain=a.example; Domain=b.example",
+        Err(Error::DomainMismatch),
+    ),
     (SECURE_PAGE, "__Http-h=1; Secure", Err(Error::Prefix)),
     (SECURE_PAGE, "__Http-h=1; Secure; HttpOnly", INSERTED),
+    (
+        SECURE_PAGE,
+        "__Host-Http-h=1; Secure; HttpOnly",
+        Err(Error::Prefix),
+    ),
+    (
+        SECURE_PAGE,
+        "__Host-Http-h=1; Secure; HttpOnly; Path=/",
+        INSERTED,
+    ),
     ("http://a.localhost/", "s=1; Secure", INSERTED),
+];
+
+/// The header of a URL after a value was received from it, without and with the rules of browsers.
+const READ: [(&str, &str, &str, &str); 6] = [
+    (PAGE, "a=1\u{a0}", "a=1", "a=1\u{a0}"),
+    (PAGE, "\u{3000}a=1", "a=1", "\u{3000}a=1"),
+    (PAGE, "a=1; Max-Age=60; Max-Age=-", "", "a=1"),
+    (PAGE, "a=1; Path=/d\u{a0}", "a=1", ""),
+    ("http://a.localhost/", "a=1; Secure", "", "a=1"),
+    ("http://localhost./", "a=1; Secure", "", "a=1"),
 ];
 
 fn assert_rows(store: &mut CookieStore, rows: &[Row]) {
@@ -132,6 +162,22 @@ fn a_strict_store_rejects_more() {
     assert_rows(&mut store, &rows);
     store.set_strict(false);
     assert_eq!(store.parse("s=2", PAGE, at(NOW)), UPDATED);
+}
+
+#[test]
+fn a_strict_store_reads_as_browsers_do() {
+    for (url, set_cookie, plain, strict) in READ {
+        for (is_strict, expected) in [(false, plain), (true, strict)] {
+            let mut store = CookieStore::new().unwrap();
+            store.set_strict(is_strict);
+            let result = store.parse(set_cookie, url, at(NOW));
+            assert!(
+                matches!(result, INSERTED | Err(Error::Expired)),
+                "{set_cookie}"
+            );
+            assert_header(&store, url, NOW, expected);
+        }
+    }
 }
 
 #[test]
