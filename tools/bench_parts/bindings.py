@@ -184,7 +184,7 @@ def print_node(number, times):
         if peer:
             ratios = [peer[key] / took for took in own]
             for jar, ratio in zip(heads, ratios):
-                behind += report.behind(f'{jar} of Node, {name}', 'tough-cookie', ratio)
+                behind += report.behind(f'{jar} of Node, {number:,} cookies, {name}', 'tough-cookie', ratio)
         took = [f'{each * 1e6:.2f}' for each in own] + [f'{peer[key] * 1e6:.2f}' if peer else '-']
         compared = ', '.join(f'{ratio:.1f}' for ratio in ratios) or '-'
         print(name.ljust(38) + ''.join(each.rjust(15) for each in took) + compared.rjust(20))

@@ -57,12 +57,13 @@ class Series:
     def __init__(self, program, task, count, paths):
         self.program, self.task, self.count, self.paths = program, task, count, paths
         self.best: list[float] = [float('inf')] * 2
-        self.spent = 0.0
+        self.spent, self.runs = 0.0, 0
 
     def run(self):
         took = [seconds(self.program, path, self.task.arguments) for path in self.paths]
         self.best = [min(times) for times in zip(self.best, took)]
         self.spent += sum(took)
+        self.runs += 1
 
     def is_long(self, target):
         """Whether the operations take `target` seconds, and enough beside the base to tell them apart."""
@@ -100,7 +101,7 @@ class Meter:
         all_series = [self._series(program, task, target) for program in programs]
         for _ in range(RUNS - 1):
             for series in all_series:
-                if series.spent < BUDGET:
+                if series.runs < RUNS and series.spent < BUDGET:
                     series.run()
         for series in all_series:
             series.remove()
@@ -130,11 +131,13 @@ class Meter:
             return instructions(program.command, stdin=lines)
 
     def _series(self, program, task, target):
-        """A series whose count is great enough, with its first run."""
+        """A series whose count is great enough, with its first runs."""
         count = 1
         while True:
             series = Series(program, task, count, [self._write(task.base(count)), self._write(task.script(count))])
             series.run()
+            if series.is_long(target):
+                series.run()  # the first may have been slow by chance
             if series.is_long(target) or count * 4 > task.most:
                 return series
             series.remove()

@@ -1,4 +1,4 @@
-"""Measures cookie_jar beside the Rust crate cookie_store and Go's net/http/cookiejar, in twenty minutes.
+"""Measures cookie_jar beside the Rust crate cookie_store and Go's net/http/cookiejar, in half an hour.
 Usage: tools/bench [stores] [--write [--accept] | --only PART]
 
 Prints the time of a set, a replaced cookie, a get and a removal, of a set under a domain limit, bytes and instructions, and how
