@@ -212,7 +212,7 @@ def print_strict(took):
     slower = []
     for key, (strict, name, most) in STRICT.items():
         ratio = took[strict] / took[key]
-        print(f'{name}, under the rules of browsers'.ljust(48) + f'{ratio:.2f} times')
+        print(f'{name}, under the rules of browsers'.ljust(60) + f'{ratio:.2f} times')
         if ratio > most:
             slower.append(f'{name} takes {ratio:.2f} times as long under the rules of browsers.')
     return slower
