@@ -129,6 +129,21 @@ needs_check() (
     ! tools/release "$temp/third" && [ ! -e "$temp/third" ] && mkdir out && identity > out/full_check && tools/release "$temp/third"
 )
 
+# A library that does not export what bindings/c/abi.txt lists is not released.
+needs_symbols() (
+    cd "$temp/clone" && sed -i '/\bcookie_store_count(/d' bindings/c/abi.txt || exit
+    ! tools/release --unchecked "$temp/fourth" 2> "$temp/why" && [ ! -e "$temp/fourth" ] &&
+        grep -Fx 'release: the library does not export what bindings/c/abi.txt lists' "$temp/why"
+)
+
+# npm installs the Node package of the release without a compiler and a network, and it has the library inside.
+installs_node_package() (
+    mkdir "$temp/released" && quoted js bindings/node/README.md > "$temp/released/first.mjs" && cd "$temp/released" || exit
+    unset COOKIE_STORE_ARCHIVE LD_LIBRARY_PATH PKG_CONFIG_PATH
+    CC=false npm install --offline --no-audit --no-fund --cache "$temp/released_cache" "$temp"/first/*/node/*.tgz &&
+        node first.mjs | diff - <(echo cookie1=value1)
+)
+
 # The first commands of the release's INSTALL compile and run the program of README.md, as README.md says, with nothing else
 # installed.
 uses_release() {
@@ -197,6 +212,13 @@ if ! git rev-parse HEAD > "$temp/why" 2>&1; then
     skips release 'this is no git repository'
 elif try release releases; then
     try MANIFEST lists_files || true
-    try 'release without the full check' needs_check || true
+    if try 'release without the full check' needs_check; then try 'release of other symbols' needs_symbols || true; fi
+    if ! has npm; then
+        skips 'Node package of the release' 'there is no npm'
+    elif ! compgen -G "$temp/first/*/node/*.tgz" > "$temp/why"; then
+        skips 'Node package of the release' 'there are no headers of Node'
+    else
+        try 'Node package of the release' installs_node_package || true
+    fi
     if has cc; then try INSTALL uses_release || true; else skips INSTALL 'there is no cc'; fi
 fi

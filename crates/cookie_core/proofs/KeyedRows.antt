@@ -1,14 +1,14 @@
 -- The keys of the Secure rows are among those of the index after each change of the rows.
-use Rattle.std.proofs.Common.{◌≡◌, ℕ, zero, suc, List, [], ◌∷◌, filter, Option, Some, None, Result, Ok, Err, IfOk, OnErr, OnOk, refl, sym, subst, ap, Bool, true, false, not, ◌&&◌, ◌||◌, ◌∙◌, inl, inr, IfSome}
-use Rattle.std.specs.List.{All, slice_get}
-use Rattle.std.proofs.lemmas.Bool.{cases_Bool, cond_both}
+use Rattle.std.proofs.Common.{◌≡◌, List, [], ◌∷◌, filter, Option, Some, None, Result, Ok, Err, OnErr, OnOk, refl, sym, subst, ap, Bool, true, false, not, ◌&&◌, ◌||◌, ◌∙◌, inl, inr, IfSome}
+use Rattle.std.specs.List.{All}
+use Rattle.std.proofs.lemmas.Bool.{cases_Bool}
 use Rattle.std.proofs.lemmas.List.Elements.{All-cons, All-filter, All-head, All-tail, All-weaker}
 use Rattle.cookie_raw.specs.Raw.{Raw}
 use Rattle.cookie_parts.specs.Cookie.{Row, is_secure_only}
 use Rattle.cookie_parts.specs.declared.cookie_error.CookieError.{CookieError}
 use Rattle.cookie_parts.specs.declared.store_action.StoreAction.{StoreAction}
-use Rattle.cookie_laws.specs.Contents.{Contents, contents_of, rows_in_order}
-use Rattle.cookie_laws.specs.Rows.{Key, RowsInOrder, has_key, key_of, removed, row_of, same_key, same_key-true, same_key_equiv}
+use Rattle.cookie_laws.specs.Contents.{Contents, rows_in_order}
+use Rattle.cookie_laws.specs.Rows.{Key, RowsInOrder, has_key, key_of, same_key, same_key-true, same_key_equiv}
 use Rattle.cookie_rows.specs.SecureKeys.{NamedScopes, lists_key}
 use Rattle.cookie_core.specs.SecureIndexes.{Indexes, IsKeyed, is_secure_stored}
 

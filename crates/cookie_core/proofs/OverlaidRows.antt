@@ -1,6 +1,6 @@
 -- Which rows a cookie overlays, found by the scopes of its name.
-use Rattle.std.proofs.Common.{◌≡◌, ◌∙◌, ℕ, Bool, true, false, not, ◌&&◌, ◌||◌, List, [], ◌∷◌, map, Option, Some, None, inl, inr, refl, sym, ap, bytes_eq, arith}
-use Rattle.std.specs.List.{All, find, list_any}
+use Rattle.std.proofs.Common.{◌≡◌, ◌∙◌, Bool, true, false, not, ◌&&◌, ◌||◌, List, [], ◌∷◌, map, inl, inr, refl, sym, ap, bytes_eq, arith}
+use Rattle.std.specs.List.{All, list_any}
 use Rattle.std.proofs.lemmas.Bool.{and_parts, cases_Bool, not-true, or_parts}
 use Rattle.std.proofs.lemmas.Cmp.{nat_list_eq_equiv}
 use Rattle.std.proofs.lemmas.List.Elements.{All-head, All-tail}
@@ -9,7 +9,7 @@ use Rattle.cookie_words.specs.Moments.{Moment}
 use Rattle.cookie_parts.specs.Cookie.{Row, is_secure_only}
 use Rattle.cookie_parts.specs.Hosts.{passes}
 use Rattle.cookie_laws.specs.Rows.{Key, are_rows, differ, has_key, is_unexpired, key_at, key_of, row_of, same_key, same_key-true}
-use Rattle.cookie_rows.specs.SecureKeys.{NamedScopes, ScopeValue, is_in_scope, lists_key, scopes_named}
+use Rattle.cookie_rows.specs.SecureKeys.{NamedScopes, ScopeValue, is_in_scope, scopes_named}
 use Rattle.cookie_core.specs.Overlaid.{is_overlaid, is_overlaid_in}
 use Rattle.cookie_core.specs.SecureIndexes.{IsKeyed}
 

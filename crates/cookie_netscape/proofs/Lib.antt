@@ -1,4 +1,5 @@
 pub mod CookieLines
+pub mod CutSeconds
 pub mod FieldsBack
 pub mod HeaderLines
 pub mod HostEnds
@@ -6,7 +7,6 @@ pub mod HostsBack
 pub mod JoinedFields
 pub mod LinesBack
 pub mod LinesRead
-pub mod Seconds
 pub mod SecondsBack
 pub mod SecondsRead
 pub mod Tabs

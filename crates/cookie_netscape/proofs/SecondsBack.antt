@@ -14,7 +14,6 @@ use Rattle.std.proofs.lemmas.List.Sums.{AllPass-from_list_all}
 use Rattle.std.proofs.lemmas.Str.Parse.{IsNumeralModel, numerals_by_value}
 use Rattle.jiff_core.specs.declared.civil.datetime.DateTime.{DateTime}
 use Rattle.jiff_core.proofs.SignedLemmas.{signed_arith}
-use Rattle.jiff.proofs.Family.{civil_nanos_range}
 use Rattle.cookie_words.specs.Moments.{epoch, moment_at, moment_of, nanoseconds}
 use Rattle.cookie_raw.specs.SetCookie.{of_seconds}
 use Rattle.cookie_parts.specs.Expiry.{Expiry, AtUtc, SessionEnd, latest}
@@ -22,9 +21,9 @@ use Rattle.cookie_netscape.specs.Lines.{expiry_at, expiry_from, seconds_from}
 use Rattle.cookie_netscape.specs.Written.{expiry_field, expiry_second, second_of}
 use Rattle.cookie_netscape.specs.declared.writing.SessionExpiry.{SessionExpiry}
 use Rattle.cookie_netscape.specs.declared.writing.SessionExpiry.TheVariants.{Zero, Empty}
+use Rattle.cookie_netscape.proofs.CutSeconds.{no_nanos, second_is_small, second_of_cut}
 use Rattle.cookie_netscape.proofs.JoinedFields.{IsField}
 use Rattle.cookie_netscape.proofs.SecondsRead.{are_digits, no_dot, seconds_without_dot, whole_of_digits}
-use Rattle.cookie_netscape.proofs.Seconds.{no_nanos, same_nanos, second_of_cut}
 
 -- a digit is not a control character
 digit_is_no_control : (b : ℕ) → is_ascii_digit b ≡ true → is_ascii_control b ≡ false
@@ -110,7 +109,7 @@ second_kept : IsScale → (cut : DateTime) (seconds : ℕ) → of_seconds second
     → expiry_at (min (max 1 seconds) 18_446_744_073_709_551_615) ≡ AtUtc (moment_of cut)
 second_kept scale cut seconds is early late =
     let some : 1 ≤ seconds = omega (arith, signed_arith, is, early) in
-    let few : seconds ≤ 9_223_372_036_854_775_807 = omega (arith, signed_arith, is, same_nanos cut, civil_nanos_range cut) in
+    let few : seconds ≤ 9_223_372_036_854_775_807 = omega (arith, signed_arith, is, second_is_small cut) in
     let written : min (max 1 seconds) 18_446_744_073_709_551_615 ≡ seconds = omega arith in
     let read : min seconds 9_223_372_036_854_775_807 ≡ seconds = omega arith in
     let later : nanoseconds epoch +ℤ of_seconds seconds ≡ nanoseconds (moment_of cut) = omega (arith, signed_arith, no_nanos, is) in

@@ -1,8 +1,9 @@
 -- Cookies as lines of a `cookies.txt` file, as curl writes them.
-use Rattle.std.specs.Prelude.{ℕ, max, min, Bool, true, false, ◌&&◌, List, [], ◌∷◌, ◌++◌, codes, decimal, flat_map, int_div, map, ℤ, pos, negsuc, if◌then◌else◌}
+use Rattle.std.specs.Prelude.{ℕ, max, min, Bool, true, false, ◌&&◌, List, [], ◌∷◌, ◌++◌, codes, decimal, flat_map, map, ℤ, pos, negsuc, if◌then◌else◌}
 use Rattle.std.specs.Char.{to_ascii_lowercase}
 use Rattle.std.specs.Ordering.{int_cmp, is_le}
 use Rattle.cookie_words.specs.Moments.{Moment, epoch, nanoseconds}
+use Rattle.cookie_words.specs.Seconds.{epoch_second}
 use Rattle.cookie_raw.specs.CookieText.{flag}
 use Rattle.cookie_parts.specs.Cookie.{Row, is_http_only, is_secure_only}
 use Rattle.cookie_parts.specs.Domain.{DomainValue, Suffix, domain_text}
@@ -36,7 +37,7 @@ not_negative (negsuc n) = 0
 
 -- the second of a time, counted from the epoch; 0 before it
 abbrev pub second_of : Moment → ℕ
-second_of moment = not_negative (int_div (nanoseconds moment) (pos 1_000_000_000))
+second_of moment = not_negative (epoch_second moment)
 
 -- the second in which the cookie expires, at most 2^64 - 1, and 0 for a session cookie; since 0 stands for that, an expiry in the first
 -- second or before the epoch is written as 1

@@ -9,7 +9,7 @@ ghost use Rattle.cookie_netscape.specs.Written.{domain_field, expiry_field, expi
 use crate::fields::are_fields;
 use crate::host::{is_representable_host, written_host};
 use cookie_parts::{Cookie, CookieDomain, CookieExpiration};
-use cookie_words::epoch;
+use cookie_words::{epoch, epoch_second};
 use itoa::Buffer;
 use jiff::civil::DateTime;
 use std::alloc::{AllocError, Global};
@@ -165,5 +165,5 @@ fn expiry_second(end: DateTime) -> u64
 fn second_of(time: DateTime) -> u64
     ensures { result ≡ second_of (moment_of time) }
 {
-    u64::try_from(time.duration_since(epoch()).as_secs()).unwrap_or(0)
+    u64::try_from(epoch_second(time)).unwrap_or(0)
 }

@@ -1,7 +1,7 @@
 //! Why a request does not have a cookie, RFC 6265 5.4.
 ghost use Rattle.std.specs.Prelude.{◌≡◌, ◌↔◌, IfSome, IsTrue, None};
 ghost use Rattle.cookie_words.specs.Moments.{moment_of};
-ghost use Rattle.cookie_parts.specs.Exclusion.{exclusion, exclusion_text, is_domain_for, is_given, is_path_for, IsExcluded};
+ghost use Rattle.cookie_parts.specs.Exclusion.{exclusion, exclusion_text, is_domain_for, is_given, IsExcluded};
 ghost use Rattle.cookie_parts.specs.Views.{domain_value};
 
 use crate::utils::{is_http_scheme, is_secure};

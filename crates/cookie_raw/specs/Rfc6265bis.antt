@@ -11,7 +11,7 @@ use Rattle.cookie_raw.specs.declared.same_site.SameSite.{SameSite}
 use Rattle.cookie_raw.specs.declared.syntax.Syntax.{Syntax}
 use Rattle.cookie_raw.specs.declared.syntax.Syntax.TheVariants.{Rfc6265, Rfc6265bis}
 
--- the white space of the revision: SP and HTAB
+-- 5.6: the white space of the revision: SP and HTAB
 abbrev pub is_white_space : ℕ → Bool
 is_white_space b = b == 32 || b == 9
 
@@ -23,16 +23,16 @@ trim_front text = drop (prefix_len is_white_space text) text
 abbrev pub trim_back : List ℕ → List ℕ
 trim_back text = take (length text - suffix_len is_white_space text) text
 
--- without white space at either end
+-- 5.6: without white space at either end
 abbrev pub trimmed : Syntax → List ℕ → List ℕ
 trimmed Rfc6265 text = trim text
 trimmed Rfc6265bis text = trim_back (trim_front text)
 
--- the name: what precedes the first `=`, or all, trimmed
+-- 5.6: the name: what precedes the first `=`, or all, trimmed
 abbrev pub name_by : Syntax → List ℕ → List ℕ
 name_by syntax piece = trimmed syntax (before_first is_equals piece)
 
--- the value: what follows the first `=`, or nothing, trimmed
+-- 5.6: the value: what follows the first `=`, or nothing, trimmed
 abbrev pub value_by : Syntax → List ℕ → List ℕ
 value_by syntax piece = trimmed syntax (after_first is_equals piece)
 
@@ -41,7 +41,7 @@ abbrev pub is_ignored : Syntax → List ℕ → Bool
 is_ignored Rfc6265 value = false
 is_ignored Rfc6265bis value = nat_lt 1024 (length value)
 
--- the value of an attribute of one kind, if it is not ignored, is of that kind and its value is accepted
+-- 5.6: the value of an attribute of one kind, if it is not ignored, is of that kind and its value is accepted
 abbrev pub accepted_by : {T : Type 0} → Syntax → (List ℕ → List ℕ → Option T) → List ℕ → Option T
 accepted_by syntax from piece =
     if is_ignored syntax (value_by syntax piece) then None else from (name_by syntax piece) (value_by syntax piece)
@@ -77,7 +77,7 @@ abbrev pub same_site_by : Syntax → List (List ℕ) → Option SameSite
 same_site_by Rfc6265 attributes = last_accepted same_site_from attributes
 same_site_by Rfc6265bis attributes = option_and_then site_of (last_by Rfc6265bis (any_named (codes "SameSite")) attributes)
 
--- the cookie of a header value, or why the header is ignored; by RFC 6265 it is `reading`
+-- 5.6: the cookie of a header value, or why the header is ignored; by RFC 6265 it is `reading`
 abbrev pub reading_by : Syntax → List ℕ → Result Raw RawCookieParseError
 reading_by syntax text =
     if not (has_equals (pair_of text)) then Err MissingPair

@@ -1,5 +1,5 @@
 //! The attributes of a Set-Cookie header value, RFC 6265 5.2.
-ghost use Rattle.std.specs.Prelude.{◌≡◌, ◌<◌, bytes_eq, codes, min, length, pos, Some, None, true, option_map, IsTrue, if◌then◌else◌};
+ghost use Rattle.std.specs.Prelude.{◌≡◌, ◌<◌, min, length, pos, Some, None, true, option_map, IsTrue, if◌then◌else◌};
 ghost use Rattle.std.specs.Char.{is_ascii_digit};
 ghost use Rattle.std.specs.List.{list_all};
 ghost use Rattle.std.specs.Str.Parse.{digits_value};

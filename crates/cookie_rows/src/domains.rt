@@ -20,7 +20,7 @@ use crate::paths::Paths;
 use cookie_parts::Cookie;
 use jiff::civil::DateTime;
 use ordered_map::OrderedMap;
-use std::alloc::{AllocError, Global};
+use std::alloc::AllocError;
 
 // Returns the row of this domain, path and name, if there is one.
 pub(crate) fn find_row<'a>(

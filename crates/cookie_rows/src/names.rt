@@ -1,10 +1,9 @@
 //! The rows of one domain and path, by name.
 ghost use Rattle.std.specs.Prelude.{◌≡◌, ◌≢◌, ◌<◌, ◌+◌, ◌^◌, ◌∷◌, [], ◌==◌, ℕ, length, map, option_map, slice_get, slice_index_or, None, Some, IfOk, IfSome, IsTrue, OnErr, OnOk, ◌≤◌, vec_capacity};
-ghost use Rattle.std.specs.Map.{values_of};
-ghost use Rattle.ordered_map.specs.Entries.{entries, in_order};
+ghost use Rattle.ordered_map.specs.Entries.{in_order};
 ghost use Rattle.std.specs.Option.{option_copied};
 ghost use Rattle.cookie_rows.specs.GroupChanges.{row_named};
-ghost use Rattle.cookie_rows.specs.Items.{AreNamed, expire_item, put_item, remove_item, rows_of, Item};
+ghost use Rattle.cookie_rows.specs.Items.{expire_item, put_item, remove_item, rows_of, Item};
 ghost use Rattle.cookie_rows.specs.Least.{TakesOut};
 ghost use Rattle.cookie_rows.specs.NameMaps.{items_of, names_differ, stored_rows, HasNames};
 ghost use Rattle.cookie_rows.specs.Stored.{StoredItems, placed_rows};

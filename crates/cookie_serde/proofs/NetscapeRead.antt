@@ -1,5 +1,5 @@
 -- Reading the lines of a file whose bytes are UTF-8.
-use Rattle.std.proofs.Common.{◌≡◌, ℕ, Bool, List, Option, Result, Ok, Err, IfOk, IfErr, inr}
+use Rattle.std.proofs.Common.{◌≡◌, ℕ, List, Option, Result, Ok, Err, IfOk, IfErr, inr}
 use Rattle.std.specs.Io.KnownBytes.{IsAtEnd}
 use Rattle.cookie_device.specs.Device.{SourceState}
 use Rattle.cookie_netscape.specs.Files.{FailsToRead}

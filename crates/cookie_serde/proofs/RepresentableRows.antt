@@ -1,5 +1,5 @@
 -- The rows that the format of `cookies.txt` can represent.
-use Rattle.std.proofs.Common.{◌≡◌, ℕ, ◌+◌, Bool, true, false, List, [], ◌∷◌, ◌++◌, filter, cond, Result, Ok, Err, IfErr, IsTrue, inr, refl, ap, ◌∙◌}
+use Rattle.std.proofs.Common.{◌≡◌, ℕ, ◌+◌, Bool, true, false, List, [], ◌∷◌, ◌++◌, filter, cond, Result, Ok, Err, IfErr, inr, refl, ap, ◌∙◌}
 use Rattle.std.specs.List.{list_all}
 use Rattle.std.proofs.lemmas.Bool.{and_parts}
 use Rattle.cookie_device.specs.Device.{AppendsPrefix, SinkState}

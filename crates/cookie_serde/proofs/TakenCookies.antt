@@ -1,10 +1,10 @@
 -- Cookies that are loaded one after the other.
-use Rattle.std.proofs.Common.{◌≡◌, ◌∙◌, [], ◌∷◌, ◌++◌, Bool, List, true, false, ap, filter, map, refl, sym}
+use Rattle.std.proofs.Common.{◌≡◌, ◌∙◌, [], ◌∷◌, ◌++◌, List, true, false, ap, map, refl, sym}
 use Rattle.std.proofs.lemmas.List.{append-nil, map-append}
 use Rattle.std.proofs.lemmas.List.Elements.{filter-append}
 use Rattle.cookie_parts.specs.Cookie.{Row}
 use Rattle.cookie_laws.specs.Rows.{Key, RowsInOrder, add_all_created, add_created, key_of, put, put_all}
-use Rattle.cookie_serde.specs.Selections.{TakesCookie, built_from, built_of, is_selected, selected}
+use Rattle.cookie_serde.specs.Selections.{TakesCookie, built_of, is_selected, selected}
 use Rattle.cookie_serde.specs.declared.which.Which.{Which}
 
 -- one more cookie is stored last

@@ -1,6 +1,6 @@
 -- Rows loaded from lines, by a function that returns a cookie for a line, or an error. `known` are the bytes of the source, if they are
 -- known; if not, nothing is said of them.
-use Rattle.std.specs.Prelude.{◌≡◌, ◌==◌, ℕ, ◌+◌, ◌≤◌, length, position, Bool, false, List, ◌∷◌, ◌++◌, Option, Some, None, Result, Ok, Err, IfSome, IsTrue, ◌⊎◌}
+use Rattle.std.specs.Prelude.{◌≡◌, ◌==◌, ℕ, ◌+◌, ◌≤◌, length, position, false, List, ◌∷◌, ◌++◌, Option, Some, None, Result, Ok, Err, IfSome, IsTrue, ◌⊎◌}
 use Rattle.std.specs.List.{AllZip}
 use Rattle.std.specs.Str.{is_utf8}
 use Rattle.std.specs.Str.Lines.{lines}

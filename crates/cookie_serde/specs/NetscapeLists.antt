@@ -1,5 +1,5 @@
 -- Rows saved as a `cookies.txt` file, and loaded from one. `known` are the bytes of the source, if they are known.
-use Rattle.std.specs.Prelude.{◌≡◌, ◌≢◌, ℕ, ◌+◌, Bool, false, not, List, [], ◌∷◌, ◌++◌, filter, length, Option, Some, Result, Ok, Err, IfSome, IsTrue, ◌⊎◌, string_bytes}
+use Rattle.std.specs.Prelude.{◌≡◌, ◌≢◌, ℕ, ◌+◌, false, not, List, [], ◌∷◌, ◌++◌, filter, length, Option, Some, Result, Ok, Err, IfSome, IsTrue, ◌⊎◌, string_bytes}
 use Rattle.std.specs.Io.KnownBytes.{Appends, IsAtEnd, Keeps}
 use Rattle.std.specs.List.{list_all}
 use Rattle.std.specs.Str.{is_utf8}

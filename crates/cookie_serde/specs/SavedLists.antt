@@ -1,6 +1,6 @@
 -- Rows saved as one string and loaded from one, by functions that return a string for rows, or cookies for a string, or an error.
 -- `known` are the bytes of the source, if they are known; if not, nothing is said of them.
-use Rattle.std.specs.Prelude.{◌≡◌, ◌≢◌, ℕ, ◌+◌, ◌≤◌, length, Bool, false, List, [], ◌++◌, Option, Some, Result, Ok, Err, IfSome, IsTrue, ◌⊎◌}
+use Rattle.std.specs.Prelude.{◌≡◌, ◌≢◌, ℕ, ◌+◌, ◌≤◌, length, false, List, [], ◌++◌, Option, Some, Result, Ok, Err, IfSome, IsTrue, ◌⊎◌}
 use Rattle.std.specs.Io.KnownBytes.{Appends, IsAtEnd, Keeps}
 use Rattle.std.specs.Result.{result_map_both}
 use Rattle.std.specs.Str.{is_utf8}

@@ -23,7 +23,7 @@ use cookie_forms::{Saved, SavedError, format_list, list_from_text};
 use cookie_parts::{Cookie, Error};
 use cookie_ron::{from_ron, print_list};
 use cookie_rows::{Rows, StoreAlloc};
-use std::alloc::{AllocError, Global};
+use std::alloc::AllocError;
 
 /// The format of a list of saved cookies.
 #[derive(Clone, Copy)]

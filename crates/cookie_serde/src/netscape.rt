@@ -4,7 +4,7 @@
 //! A line has no SameSite and no other attribute, no fraction of a second in the expiry, and not
 //! whether a Path attribute set the path: a loaded cookie has a path as if one had. Its domain is in
 //! lower case. [`netscape::laws`](cookie_netscape::laws) states what reads back.
-ghost use Rattle.std.specs.Prelude.{◌≡◌, ◌+◌, ◌-◌, ◌^◌, ◌<◌, ◌⊎◌, IsTrue, None, filter, IfErr, IfOk, OnErr, OnOk, string_bytes};
+ghost use Rattle.std.specs.Prelude.{◌≡◌, ◌+◌, ◌-◌, ◌^◌, ◌<◌, None, filter, IfErr, IfOk, OnErr, OnOk, string_bytes};
 ghost use Rattle.std.specs.Io.KnownBytes.{Appends, IsAtEnd};
 ghost use Rattle.std.specs.List.{list_all};
 ghost use Rattle.cookie_words.specs.Moments.{moment_of};

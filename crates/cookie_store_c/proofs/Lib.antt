@@ -1,11 +1,10 @@
-mod Insertions
 mod Filling
+mod Insertions
 mod LoadOutcomes
 mod LoadReports
 mod Passing
 mod RequestRows
 mod Responses
-mod Seconds
 mod StoreBox
 mod StoreGlue
 mod StorePtrSteps

@@ -1,5 +1,5 @@
 -- What each call returns, and the store after it.
-use Rattle.std.specs.Prelude.{◌≡◌, ◌==◌, if◌then◌else◌, ◌⊎◌, ℕ, Bool, true, false, not, List, [], length, Option, Some, None, unwrap_or, Result, Ok, Err, IsOk, ℤ}
+use Rattle.std.specs.Prelude.{◌≡◌, ◌==◌, if◌then◌else◌, ◌⊎◌, ℕ, Bool, true, false, List, [], length, Option, Some, None, unwrap_or, Result, Ok, Err, IsOk, ℤ}
 use Rattle.std.specs.Result.{result_map_both}
 use Rattle.url.specs.Parts.{Parts}
 use Rattle.cookie_words.specs.Moments.{Moment}

@@ -1,8 +1,8 @@
 -- Rows as C programs read them.
 use Rattle.std.specs.Prelude.{◌≡◌, ◌⊎◌, ℕ, ◌^◌, ◌≤◌, Bool, true, false, ◌&&◌, List, ◌++◌, flat_map, length, map, nat_le, Option, Some, None, Result, Ok, Err, if◌then◌else◌, ℤ, pos}
-use Rattle.std.specs.Int.{int_div_euclid}
 use Rattle.url.specs.Parts.{Parts}
-use Rattle.cookie_words.specs.Moments.{Moment, nanoseconds}
+use Rattle.cookie_words.specs.Moments.{Moment}
+use Rattle.cookie_words.specs.Seconds.{epoch_second}
 use Rattle.cookie_raw.specs.declared.same_site.SameSite.{SameSite}
 use Rattle.cookie_raw.specs.declared.same_site.SameSite.TheVariants as same_site
 use Rattle.cookie_parts.specs.Cookie.{Row, is_http_only, is_persistent, is_secure_only}
@@ -19,7 +19,7 @@ use Rattle.cookie_store_c.specs.declared.status.Status.TheVariants.{Done, NoMemo
 
 -- the second of the expiry, counted from the epoch and rounded down; 0 for a session cookie
 abbrev pub expiry_second : Expiry → ℤ
-expiry_second (AtUtc end) = int_div_euclid (nanoseconds end) (pos 1_000_000_000)
+expiry_second (AtUtc end) = epoch_second end
 expiry_second SessionEnd = pos 0
 
 -- RFC 6265 5.3 step 6: the host-only-flag

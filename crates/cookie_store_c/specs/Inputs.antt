@@ -1,9 +1,10 @@
 -- The arguments that C programs pass: strings, times and URLs, or the status of an invalid one.
-use Rattle.std.specs.Prelude.{◌≡◌, ◌⊎◌, ℕ, ◌&&◌, List, Result, Ok, Err, if◌then◌else◌, ℤ, pos, ◌-ℤ◌, ◌*ℤ◌, int_le}
+use Rattle.std.specs.Prelude.{◌≡◌, ◌⊎◌, ℕ, List, Result, Ok, Err, if◌then◌else◌, ℤ}
 use Rattle.std.specs.Option.{ok_or}
 use Rattle.std.specs.Str.{is_utf8}
 use Rattle.url.specs.Parts.{Parts}
-use Rattle.cookie_words.specs.Moments.{Moment, moment_at}
+use Rattle.cookie_words.specs.Moments.{Moment}
+use Rattle.cookie_words.specs.Seconds.{moment_at_second}
 use Rattle.cookie_parts.specs.Cookie.{and_then}
 use Rattle.cookie_inputs.specs.Urls.{unambiguous_url}
 use Rattle.cookie_laws.specs.Rows.{key_at}
@@ -15,19 +16,9 @@ use Rattle.cookie_store_c.specs.declared.status.Status.TheVariants.{NoMemory, Ba
 abbrev pub text_in : List ℕ → Result (List ℕ) Status
 text_in bytes = if is_utf8 bytes then Ok bytes else Err NotUtf8
 
--- the first second of the year -9999, counted from the epoch
-abbrev pub first_second : ℤ
-first_second = pos 0 -ℤ pos 377_705_116_800
-
--- 253402300799, the last second of the year 9999
-abbrev pub last_second : ℤ
-last_second = pos 253_402_300_799
-
--- the time this number of seconds after the epoch, within these years
+-- the time this number of seconds after the epoch, in the years -9999 to 9999
 abbrev pub moment_in : ℤ → Result Moment Status
-moment_in seconds =
-    if int_le first_second seconds && int_le seconds last_second then Ok (moment_at (seconds *ℤ pos 1_000_000_000))
-    else Err BadTime
+moment_in seconds = ok_or (moment_at_second seconds) BadTime
 
 -- the URL that a string parses to, unless it is ambiguous
 unfoldable pub url_in : List ℕ → Result Parts Status

@@ -2,7 +2,6 @@
 ghost use Rattle.std.specs.Prelude.{◌≡◌, ◌⊎◌, ◌+◌, length, Ok, Some, IfErr, IsOk, ⊤};
 ghost use Rattle.std.specs.Result.{result_map_both};
 ghost use Rattle.cookie_words.specs.Moments.{moment_of};
-ghost use Rattle.cookie_laws.specs.Contents.{retained};
 ghost use Rattle.cookie_laws.specs.Rows.{key_at};
 ghost use Rattle.cookie_laws.specs.Runs.{Clear, Remove, Set};
 ghost use Rattle.cookie_store_c.specs.Inputs.{text_and_time, moment_in, remove_call, response_inputs, text_in};

@@ -1,8 +1,6 @@
 //! Lists cookies, as a cookie editor shows them.
-ghost use Rattle.std.specs.Prelude.{◌≡◌, ◌⊎◌, ◌^◌, ◌≤◌, flat_map, length, map, pos};
+ghost use Rattle.std.specs.Prelude.{◌≡◌, ◌⊎◌, ◌^◌, ◌≤◌, flat_map, length, map};
 ghost use Rattle.std.specs.Option.{MatchOption};
-ghost use Rattle.std.specs.Int.{int_div_euclid};
-ghost use Rattle.cookie_words.specs.Moments.{moment_of, nanoseconds};
 ghost use Rattle.cookie_parts.specs.Views.{expiry_value};
 ghost use Rattle.cookie_store_c.specs.Buffers.{at_start};
 ghost use Rattle.cookie_store_c.specs.CookieRows.{expiry_second, nothing_written, row_strings, same_site_code, cookie_row, rows_outcome, IsTooLong};
@@ -14,8 +12,7 @@ use crate::row_iter::{RowIter, row_count};
 use crate::status::Status;
 use cookie_store::raw::SameSite;
 use cookie_store::{Cookie, CookieDomain, CookieExpiration, CookieStore};
-use cookie_words::epoch;
-use jiff::civil::DateTime;
+use cookie_words::epoch_second;
 
 /// A cookie without its strings, which are stored elsewhere: domain, path, name, value.
 ///
@@ -155,17 +152,7 @@ fn expiry_second(end: &CookieExpiration) -> i64
     ensures { result ≡ expiry_second (expiry_value end.now) }
 {
     match end {
-        CookieExpiration::AtUtc(moment) => second_of(*moment),
+        CookieExpiration::AtUtc(moment) => epoch_second(*moment),
         CookieExpiration::SessionEnd => 0,
     }
-}
-
-// Returns the second of a time since the epoch, rounded down.
-fn second_of(moment: DateTime) -> i64
-    ensures { result ≡ int_div_euclid (nanoseconds (moment_of moment)) (pos 1_000_000_000) }
-{
-    moment
-        .duration_since(epoch())
-        .as_nanos()
-        .div_euclid(1_000_000_000) as i64
 }

@@ -8,8 +8,7 @@ ghost use Rattle.cookie_store_c.specs.Inputs.{text_and_time, moment_in, page_and
 
 use crate::status::Status;
 use cookie_inputs::parse_unambiguous;
-use cookie_words::{epoch, moments_round_trip};
-use jiff::SignedDuration;
+use cookie_words::moment_at_second;
 use jiff::civil::DateTime;
 use std::alloc::{AllocError, Global};
 use url::Url;
@@ -28,12 +27,7 @@ pub(crate) fn text_in(bytes: &[u8]) -> Result<&str, Status>
 pub(crate) fn moment_in(seconds: i64) -> Result<DateTime, Status>
     ensures { result_map_both moment_of (λ status. status) result ≡ moment_in seconds }
 {
-    // for the checker: a `DateTime` is determined by its nanoseconds since the epoch
-    moments_round_trip();
-    match epoch().checked_add(SignedDuration::from_secs(seconds)) {
-        Ok(moment) => Ok(moment),
-        Err(_) => Err(Status::BadTime),
-    }
+    moment_at_second(seconds).ok_or(Status::BadTime)
 }
 
 // Parses a URL from which all parsers read the same host.

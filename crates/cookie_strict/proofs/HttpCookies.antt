@@ -1,5 +1,5 @@
 -- A row whose name begins with `__Http-` or `__Host-Http-` was set by a secure URL with an HTTP scheme.
-use Rattle.std.proofs.Common.{◌≡◌, ℕ, true, false, ◌&&◌, List, Option, ⊎_elim, sym, ap, subst, refl, ◌∙◌, arith}
+use Rattle.std.proofs.Common.{◌≡◌, true, false, ◌&&◌, List, Option, ⊎_elim, sym, ap, subst, refl, ◌∙◌, arith}
 use Rattle.std.proofs.lemmas.Bool.{and_parts}
 use Rattle.url.specs.Parts.{Parts}
 use Rattle.cookie_psl.specs.Rules.{RuleList}

@@ -3,7 +3,7 @@ ghost use Rattle.std.specs.Prelude.{◌≡◌, IfErr, IfOk, None, Ok, OnOk, Some
 ghost use Rattle.std.specs.List.{list_all};
 ghost use Rattle.cookie_raw.specs.Rfc6265bis.{reading_by};
 ghost use Rattle.cookie_raw.specs.declared.syntax.Syntax.TheVariants.{Rfc6265bis};
-ghost use Rattle.cookie_strict.specs.HeaderValue.{domain_error, has_control, has_visible_domain, header_error, is_control, is_too_long, is_visible, pair_error};
+ghost use Rattle.cookie_strict.specs.HeaderValue.{has_control, has_visible_domain, header_error, is_control, is_too_long, is_visible, pair_error};
 
 use crate::StrictError;
 use cookie_parts::CookieError;

@@ -1,7 +1,6 @@
 //! Reads a cookie from a row of the table `cookies`.
 ghost use Rattle.std.specs.Prelude.{◌≡◌, ◌⊎◌, None, Ok, Some, Err, IfErr, IfOk, option_map};
-ghost use Rattle.sqlite_value.specs.Order.{column};
-ghost use Rattle.cookie_table.specs.FromColumns.{cookie_in, domain_in, domain_numbered, path_in, raw_in};
+ghost use Rattle.cookie_table.specs.FromColumns.{cookie_in, domain_in, path_in, raw_in};
 ghost use Rattle.cookie_table.specs.Views.{columns_row, domain_view, path_view, raw_view};
 
 use crate::values::{

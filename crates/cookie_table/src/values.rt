@@ -4,10 +4,9 @@ ghost use Rattle.std.specs.Prelude.{◌≡◌, option_map};
 ghost use Rattle.jiff.specs.Words.{signed_nanos};
 ghost use Rattle.sqlite_value.specs.declared.value.Value.TheVariants as Value;
 ghost use Rattle.sqlite_value.specs.Order.{column};
-ghost use Rattle.cookie_words.specs.Moments.{moment_of};
 ghost use Rattle.cookie_raw.specs.Views.{expires_value};
 ghost use Rattle.cookie_parts.specs.Views.{expiry_value};
-ghost use Rattle.cookie_table.specs.FromColumns.{age_in, attribute_in, expiry_in, flag_in, if_any, is_null, number_in, site_in, text_in, time_in};
+ghost use Rattle.cookie_table.specs.FromColumns.{age_in, attribute_in, expiry_in, flag_in, if_any, is_null, number_in, site_in, text_in};
 
 use cookie_forms::read_moment;
 use cookie_parts::CookieExpiration;

@@ -1,6 +1,6 @@
 //! Writes a cookie as a row of the table `cookies`.
 ghost use Rattle.std.specs.Option.{option_copied};
-ghost use Rattle.std.specs.Prelude.{◌≡◌, ◌↔◌, ◌⊎◌, ◌++◌, ◌∷◌, [], false, int_div, option_map, pos, unwrap_or, Err, IfErr, IfOk, IsTrue, OnOk, Some};
+ghost use Rattle.std.specs.Prelude.{◌≡◌, ◌↔◌, ◌⊎◌, ◌++◌, ◌∷◌, [], false, option_map, pos, unwrap_or, Err, IfErr, IfOk, IsTrue, OnOk, Some};
 ghost use Rattle.jiff.specs.Words.{signed_nanos};
 ghost use Rattle.sqlite_value.specs.declared.value.Value.TheVariants as Value;
 ghost use Rattle.cookie_words.specs.Moments.{moment_of};
@@ -12,7 +12,7 @@ ghost use Rattle.cookie_parts.specs.Expiry as Expiry;
 ghost use Rattle.cookie_parts.specs.Views as Views;
 ghost use Rattle.cookie_parts.specs.Views.{domain_value};
 ghost use Rattle.cookie_table.specs.Columns.{age_value, attribute_value, attributes, expiry_value, flag_value, or_null, site_value, table_row, time_value};
-ghost use Rattle.cookie_table.specs.FromColumns.{attribute_in, cookie_in, expiry_in, if_any, text_in, time_in};
+ghost use Rattle.cookie_table.specs.FromColumns.{attribute_in, cookie_in, expiry_in, if_any, text_in};
 ghost use Rattle.cookie_table.specs.WholeSeconds.{attribute_in_seconds, expiry_in_seconds, has_early_time, in_whole_seconds, is_early, is_early_attribute, is_early_expiry};
 
 use cookie_forms::laws::moments_read_back;

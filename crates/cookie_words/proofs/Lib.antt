@@ -1,3 +1,4 @@
 pub mod Calendar
 mod CalendarDays
+mod EpochSeconds
 mod Powers

@@ -1,3 +1,4 @@
 pub mod Moments
+pub mod Seconds
 pub mod Steps
 pub mod Strings

@@ -9,9 +9,11 @@ ghost use Rattle.cookie_words.specs.Strings.{without_dot};
 
 mod dates;
 mod digits;
+mod seconds;
 
 pub use dates::{calendar_date, clock_time, epoch};
 pub use digits::{digits_value, is_digits};
+pub use seconds::{epoch_second, moment_at_second};
 
 /// Converting a `DateTime` of `jiff` to nanoseconds since 1970-01-01T00:00:00 and back gives the
 /// same date and time.

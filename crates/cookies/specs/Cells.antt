@@ -8,7 +8,7 @@ use Rattle.cookie_raw.specs.declared.same_site.SameSite.TheVariants as Site
 use Rattle.cookie_forms.specs.MomentText.{moment_text}
 use Rattle.cookie_parts.specs.Cookie.{Row, is_http_only, is_secure_only}
 use Rattle.cookie_parts.specs.Domain as Domain
-use Rattle.cookie_parts.specs.Domain.{DomainValue, domain_text}
+use Rattle.cookie_parts.specs.Domain.{DomainValue}
 use Rattle.cookie_parts.specs.Expiry as Expiry
 use Rattle.cookie_parts.specs.Expiry.{has_passed}
 use Rattle.cookies.specs.Escapes.{escaped, escaped_char}

@@ -1,5 +1,5 @@
 -- Which cookies an explanation lists, and the cells of each.
-use Rattle.std.specs.Prelude.{ℕ, Bool, not, ◌&&◌, ◌||◌, List, [], ◌∷◌, ◌++◌, bytes_eq, codes, Option, Some, None, option_and_then, option_map, unwrap_or, false, if◌then◌else◌}
+use Rattle.std.specs.Prelude.{ℕ, Bool, not, ◌||◌, List, [], ◌∷◌, ◌++◌, bytes_eq, codes, Option, Some, None, option_and_then, option_map, unwrap_or, false, if◌then◌else◌}
 use Rattle.std.specs.Option.{option_or}
 use Rattle.url.specs.Parts.{Parts}
 use Rattle.cookie_words.specs.Moments.{Moment}

@@ -1,8 +1,8 @@
 //! Changes of a table, made in the open transaction.
-ghost use Rattle.std.specs.Prelude.{◌≡◌, ◌≤◌, IfErr, IsTrue, OnErr, OnOk};
+ghost use Rattle.std.specs.Prelude.{◌≡◌, IfErr, OnErr, OnOk};
 ghost use Rattle.std.specs.List.{All, Any};
 ghost use Rattle.sqlite_disk.specs.Disk.{MoreFaults};
-ghost use Rattle.sqlite_trees.specs.View.{HasCause, IsClean, IsFailure, IsQuiet, KeepsCommitted, KeepsSchema, OnlyWrites, SetsTree, Tells};
+ghost use Rattle.sqlite_trees.specs.View.{HasCause, IsClean, IsFailure, IsQuiet, KeepsCommitted, KeepsSchema, SetsTree, Tells};
 ghost use Rattle.durable_table.specs.Changes.{changed, HasRowid, IsUnstorable};
 ghost use Rattle.durable_table.specs.Transactions.{Applies};
 

@@ -1,171 +1,158 @@
 use super::*;
-use std::alloc::{AllocError, Global};
+use std::alloc::Global;
 use std::hash::{BuildHasherDefault, FoldHasher};
+use std::process::Abort;
 use std::string::String;
 use std::test::*;
 
 type Map = OrderedMap<u32, BuildHasherDefault<FoldHasher>>;
+
+// An edit, and the value that it removes.
+enum Edit {
+    Add(&'static str, u32),
+    Write(&'static str, u32),
+    WriteAt(usize, u32),
+    Remove(&'static str, Option<u32>),
+    RemoveAt(usize, Option<u32>),
+    MoveToEnd(&'static str),
+    // adds 10 to each value, and retains the odd ones
+    RetainOdd,
+    Clear,
+}
+
+// Edits of one map, each with the entries after it.
+static EDITS: [(Edit, &str); 21] = [
+    (Edit::Add("a", 1), "a=1 "),
+    (Edit::Add("b", 2), "a=1 b=2 "),
+    (Edit::Add("c", 3), "a=1 b=2 c=3 "),
+    (Edit::Add("d", 4), "a=1 b=2 c=3 d=4 "),
+    (Edit::Add("e", 5), "a=1 b=2 c=3 d=4 e=5 "),
+    (Edit::Write("b", 6), "a=1 b=6 c=3 d=4 e=5 "),
+    (Edit::Write("f", 7), "a=1 b=6 c=3 d=4 e=5 "),
+    (Edit::MoveToEnd("b"), "a=1 c=3 d=4 e=5 b=6 "),
+    (Edit::MoveToEnd("f"), "a=1 c=3 d=4 e=5 b=6 "),
+    // its position is the same
+    (Edit::WriteAt(1, 2), "a=1 c=3 d=4 e=5 b=2 "),
+    (Edit::WriteAt(5, 2), "a=1 c=3 d=4 e=5 b=2 "),
+    (Edit::Remove("c", Some(3)), "a=1 d=4 e=5 b=2 "),
+    (Edit::Remove("c", None), "a=1 d=4 e=5 b=2 "),
+    (Edit::RemoveAt(0, Some(1)), "d=4 e=5 b=2 "),
+    (Edit::RemoveAt(3, None), "d=4 e=5 b=2 "),
+    (Edit::Add("a", 8), "d=4 e=5 b=2 a=8 "),
+    (Edit::RetainOdd, "e=15 "),
+    (Edit::Add("a", 9), "e=15 a=9 "),
+    (Edit::Clear, ""),
+    (Edit::RetainOdd, ""),
+    (Edit::Add("b", 7), "b=7 "),
+];
 
 fn empty(alloc: Global) -> Map {
     OrderedMap::with_hasher(alloc, BuildHasherDefault::new())
 }
 
 // Adds an entry, unless the key is there.
-fn add(map: &mut Map, text: &str, value: u32) -> Result<(), AllocError> {
-    if map.get(text).is_some() {
-        return Ok(());
+fn add(rt: &impl Abort, map: &mut Map, text: &str, value: u32) {
+    if map.get(text).is_none() {
+        let key = String::from_str(*map.allocator(), text).expect(rt, "memory");
+        map.push(key, value).expect(rt, "memory");
     }
-    let key = String::from_str(*map.allocator(), text)?;
-    map.push(key, value)
+}
+
+fn write(place: Option<&mut u32>, value: u32) {
+    if let Some(place) = place {
+        *place = value;
+    }
+}
+
+fn is_value(rt: &impl Abort, found: Option<u32>, expected: Option<u32>) {
+    assert_eq!(rt; found, expected);
+}
+
+fn make(rt: &impl Abort, map: &mut Map, edit: &Edit) {
+    match edit {
+        Edit::Add(key, value) => add(rt, map, key, *value),
+        Edit::Write(key, value) => write(map.get_mut(key), *value),
+        Edit::WriteAt(position, value) => write(map.at_mut(*position), *value),
+        Edit::Remove(key, value) => is_value(rt, map.remove(key), *value),
+        Edit::RemoveAt(position, value) => is_value(rt, map.remove_at(*position), *value),
+        Edit::MoveToEnd(key) => map.move_to_end(key),
+        Edit::RetainOdd => map.retain(|_key: &String, value: &mut u32| -> bool {
+            *value = value.wrapping_add(10);
+            *value % 2 == 1
+        }),
+        Edit::Clear => map.clear(),
+    }
 }
 
 // Returns the entries, such as `a=1 b=2 `.
-fn shown(map: &Map) -> Result<String, AllocError> {
+fn shown(rt: &impl Abort, map: &Map) -> String {
     let mut text = String::new(*map.allocator());
     for (key, value) in map.iter() {
-        text.push_str(key.as_str())?;
-        text.push_str("=")?;
-        let number = format!(in *map.allocator(); "{value}")?;
-        text.push_str(number.as_str())?;
-        text.push_str(" ")?;
+        let entry = format!(in *map.allocator(); "{key}={value} ").expect(rt, "memory");
+        text.push_str(entry.as_str()).expect(rt, "memory");
     }
-    Ok(text)
+    text
 }
 
-// Adds `a` to `e`, with the values 1 to 5.
-fn five(alloc: Global) -> Result<Map, AllocError> {
-    let mut map = empty(alloc);
-    add(&mut map, "a", 1)?;
-    add(&mut map, "b", 2)?;
-    add(&mut map, "c", 3)?;
-    add(&mut map, "d", 4)?;
-    add(&mut map, "e", 5)?;
-    Ok(map)
+fn has_entries(rt: &impl Abort, map: &Map, expected: &str) {
+    let shown = shown(rt, map);
+    assert_eq!(rt; shown.as_str(), expected);
 }
 
 #[test]
-fn finds_entries(rt: HostRuntime) -> Result<(), Fail> {
-    let map = five(rt.alloc())?;
-    assert_eq!(rt; map.len(), 5);
-    assert!(rt; !map.is_empty());
-    assert_eq!(rt; map.get("c").copied(), Some(3));
-    assert_eq!(rt; map.get("f").copied(), None);
-    assert_eq!(rt; map.position("d"), Some(3));
-    assert_eq!(rt; map.at(3), Some((3, "d", &4)));
-    assert_eq!(rt; map.at(5), None);
+fn edits_keep_the_order(rt: HostRuntime) {
+    let mut map = empty(rt.alloc());
+    for (edit, entries) in &EDITS {
+        make(&rt, &mut map, edit);
+        has_entries(&rt, &map, entries);
+    }
+}
+
+// Checks what each call finds in `a=1 b=2 c=3`.
+fn are_found(rt: &impl Abort, map: &Map) {
+    assert!(rt; map.len() == 3 && !map.is_empty());
+    assert!(rt; map.get("c").copied() == Some(3) && map.get("d").is_none());
+    assert!(rt; map.position("b") == Some(1) && map.position("d").is_none());
+    assert!(rt; map.at(1) == Some((1, "b", &2)) && map.at(3).is_none());
+}
+
+fn are_values(rt: &impl Abort, map: &Map) {
     let mut values = map.values();
-    assert_eq!(rt; values.next(), Some(&1));
-    assert_eq!(rt; values.next(), Some(&2));
-    Ok(())
+    assert!(rt; values.next() == Some(&1) && values.next() == Some(&2));
 }
 
 #[test]
-fn writes_a_value(rt: HostRuntime) -> Result<(), Fail> {
-    let mut map = five(rt.alloc())?;
-    if let Some(value) = map.get_mut("b") {
-        *value = 20;
-    }
-    assert!(rt; map.get_mut("f").is_none());
-    assert_eq!(rt; shown(&map)?.as_str(), "a=1 b=20 c=3 d=4 e=5 ");
-    Ok(())
-}
-
-#[test]
-fn writes_a_value_by_position(rt: HostRuntime) -> Result<(), Fail> {
-    let mut map = five(rt.alloc())?;
-    map.move_to_end("b");
-    if let Some(value) = map.at_mut(1) {
-        *value = 20;
-    }
-    assert!(rt; map.at_mut(5).is_none());
-    assert_eq!(rt; shown(&map)?.as_str(), "a=1 c=3 d=4 e=5 b=20 ");
-    Ok(())
-}
-
-#[test]
-fn removes_in_order(rt: HostRuntime) -> Result<(), Fail> {
-    let mut map = five(rt.alloc())?;
-    assert_eq!(rt; map.remove("b"), Some(2));
-    assert_eq!(rt; map.remove("b"), None);
-    assert_eq!(rt; shown(&map)?.as_str(), "a=1 c=3 d=4 e=5 ");
-    assert_eq!(rt; map.remove("e"), Some(5));
-    assert_eq!(rt; map.remove("a"), Some(1));
-    add(&mut map, "a", 6)?;
-    assert_eq!(rt; shown(&map)?.as_str(), "c=3 d=4 a=6 ");
-    map.clear();
-    assert!(rt; map.is_empty());
-    add(&mut map, "b", 7)?;
-    assert_eq!(rt; shown(&map)?.as_str(), "b=7 ");
-    Ok(())
-}
-
-#[test]
-fn removes_by_position(rt: HostRuntime) -> Result<(), Fail> {
-    let mut map = five(rt.alloc())?;
-    assert_eq!(rt; map.remove_at(1), Some(2));
-    assert_eq!(rt; map.remove_at(4), None);
-    // the last entry moved to the position of the removed one, and not in the order
-    assert_eq!(rt; map.position("e"), Some(1));
-    assert_eq!(rt; shown(&map)?.as_str(), "a=1 c=3 d=4 e=5 ");
-    Ok(())
-}
-
-#[test]
-fn moves_to_the_end(rt: HostRuntime) -> Result<(), Fail> {
-    let mut map = five(rt.alloc())?;
-    for _ in 0..20 {
-        map.move_to_end("b");
-        map.move_to_end("a");
-    }
-    map.move_to_end("f");
-    assert_eq!(rt; shown(&map)?.as_str(), "c=3 d=4 e=5 b=2 a=1 ");
-    Ok(())
-}
-
-#[test]
-fn retains_in_order(rt: HostRuntime) -> Result<(), Fail> {
-    let mut map = five(rt.alloc())?;
-    map.retain(|_key: &String, value: &mut u32| -> bool {
-        *value ^= 8;
-        *value != 10 && *value != 13
-    });
-    assert_eq!(rt; shown(&map)?.as_str(), "a=9 c=11 d=12 ");
-    map.retain(|_key: &String, _value: &mut u32| -> bool { false });
-    assert!(rt; map.is_empty());
-    Ok(())
-}
-
-#[test]
-fn has_room(rt: HostRuntime) -> Result<(), Fail> {
-    let mut map: Map = OrderedMap::with_capacity_and_hasher(
-        rt.alloc(),
-        3,
-        BuildHasherDefault::new(),
-    )?;
+fn finds_entries(rt: HostRuntime) {
+    let map = OrderedMap::with_capacity_and_hasher(rt.alloc(), 3, BuildHasherDefault::new());
+    let mut map: Map = map.expect(&rt, "memory");
     let _ = map.hasher();
-    add(&mut map, "a", 1)?;
-    assert_eq!(rt; map.get("a").copied(), Some(1));
-    Ok(())
+    add(&rt, &mut map, "a", 1);
+    add(&rt, &mut map, "b", 2);
+    add(&rt, &mut map, "c", 3);
+    are_found(&rt, &map);
+    are_values(&rt, &map);
 }
 
-// Each step removes the key `step / 2 * step % 11` if it is there, and else adds it; each third step
-// moves `step % 11` to the end. The expected entries are those of Python's `dict`.
+// Removes the key `step / 2 * step % 11` if it is there, and else adds it; each third step moves
+// `step % 11` to the end.
+fn churn(rt: &impl Abort, map: &mut Map, step: u32) {
+    let alloc = *map.allocator();
+    let key = format!(in alloc; "{}", (step / 2).wrapping_mul(step) % 11).expect(rt, "memory");
+    if map.remove(key.as_str()).is_none() {
+        add(rt, map, key.as_str(), step);
+    }
+    if step % 3 == 0 {
+        let moved = format!(in alloc; "{}", step % 11).expect(rt, "memory");
+        map.move_to_end(moved.as_str());
+    }
+}
+
+// The expected entries are those of Python's `dict`.
 #[test]
-fn churns(rt: HostRuntime) -> Result<(), Fail> {
+fn churns(rt: HostRuntime) {
     let mut map = empty(rt.alloc());
     for step in 0..500u32 {
-        let key = format!(in rt.alloc(); "{}", step / 2 * step % 11)?;
-        if map.remove(key.as_str()).is_none() {
-            add(&mut map, key.as_str(), step)?;
-        }
-        if step % 3 == 0 {
-            let moved = format!(in rt.alloc(); "{}", step % 11)?;
-            map.move_to_end(moved.as_str());
-        }
+        churn(&rt, &mut map, step);
     }
-    assert_eq!(rt;
-        shown(&map)?.as_str(),
-        "2=486 7=490 8=488 0=495 1=497 6=499 "
-    );
-    Ok(())
+    has_entries(&rt, &map, "2=486 7=490 8=488 0=495 1=497 6=499 ");
 }

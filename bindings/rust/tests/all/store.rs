@@ -220,7 +220,7 @@ fn times_are_checked() {
         let removed = expected.map(|_| 0).map_err(|()| Error::BadTime);
         assert_eq!(store.remove_expired(at(now)), removed, "{now}");
     }
-    for now in [i64::MIN, FIRST - 1, LAST + 1, i64::MAX] {
+    for now in [i64::MIN + 1, FIRST - 1, LAST + 1, i64::MAX] {
         assert_eq!(
             store.parse("b=1", PAGE, at(now)),
             Err(Error::BadTime),

@@ -1,8 +1,7 @@
-use Rattle.std.proofs.Common.{◌≡◌, ◌∙◌, Ok, ap, sym}
+use Rattle.std.proofs.Common.{◌∙◌, Ok, ap}
 use Rattle.cookie_words.specs.Moments.{moment_of}
-use Rattle.cookie_parts.specs.declared.store_action.StoreAction.TheVariants.{Inserted, UpdatedExisting}
 use Rattle.cookie_laws.specs.Rows.{key_of, row_of}
-use Rattle.cookie_core.proofs.Insertions.{inserted_is_new, inserted_is_unexpired, updated_is_stored}
+use Rattle.cookie_core.proofs.Insertions.{inserted_is_new}
 use Rattle.cookie_core.proofs.insertion.store_row.Goals as goal
 
 pub insert_within_limit-requires-clause-new : goal.insert_within_limit-requires-clause-new

@@ -1,0 +1,121 @@
+//! Opening the file of a path.
+ghost use Rattle.std.specs.Prelude.{◌≡◌, false, IfErr, IfOk, IsTrue};
+ghost use Rattle.sqlite_wal.specs.Files.{image_at};
+ghost use Rattle.sqlite_trees.specs.View.{IsClean};
+ghost use Rattle.sqlite_store.specs.FileStore.{is_shielded, view};
+ghost use Rattle.cookie_durable.specs.Durable.{IsInStep};
+ghost use Rattle.cookie_durable.specs.Files.{image_of, FindsCookies, IsCleanLeft, LeavesFiles};
+
+use crate::attaching::{Leftover, attach};
+use crate::{DurableStore, OpenError};
+use sqlite_disk::{Disk, Files, Start};
+use sqlite_pager::Options;
+use sqlite_std_file::FileFrom;
+use sqlite_store::FileStore;
+use std::alloc::Global;
+use std::fs::OpenOptions;
+use std::hash::{BuildHasher, RandomState};
+use std::io;
+use std::os::unix::fs::OpenOptionsExt;
+use std::rt::HostRuntime;
+
+impl<D: Disk> DurableStore<FileStore<D>> {
+    /// Opens a database file and its log. Files without a table get an empty one. If `keep_session`
+    /// is false, the session cookies are removed first, in one commit.
+    ///
+    /// # Errors
+    ///
+    /// Those of [`open_path`](DurableStore::open_path) from `Foreign` on.
+    pub fn open_files(
+        alloc: Global,
+        files: Files<D>,
+        options: Options,
+        keep_session: bool,
+    ) -> Result<DurableStore<FileStore<D>>, (OpenError, Leftover<D>)>
+        requires log { IsTrue (D.Disk.is_usable files.log) }
+        requires db { IsTrue (D.Disk.is_usable files.db) }
+        ensures in_step { IfOk result (λ d. IsInStep d (view d.file)) }
+        ensures works { IfOk result (λ d. d.is_failed ≡ false) }
+        ensures found { IfOk result (λ d. IsClean (view d.file) → FindsCookies keep_session (image_of D.Disk files) d.store) }
+        ensures guarded { IfOk result (λ d. IsClean (view d.file) → is_shielded d.file) }
+        ensures unharmed { IfErr result (λ e. IsCleanLeft e.1 → LeavesFiles keep_session files e.1) }
+    {
+        let store = match attach(alloc, files, options) {
+            Ok(store) => store,
+            Err(left) => return Err(left),
+        };
+        match DurableStore::open_kept(alloc, store, 0, keep_session) {
+            Ok(opened) => Ok(opened),
+            Err((error, left)) => Err((error, Leftover::Store(left))),
+        }
+    }
+}
+
+impl<S: Start> DurableStore<FileStore<FileFrom<S>>> {
+    /// Opens the SQLite file at `path`, which is locked until the store is dropped. If `keep_session`
+    /// is false, the session cookies are removed first, in one commit.
+    ///
+    /// A missing file is created with the mode 0600. A file without a table gets an empty one.
+    /// `start` stands for what the file and its log hold: pass [`Unknown`](sqlite_disk::Unknown).
+    ///
+    /// # Errors
+    ///
+    /// In the order in which they are checked; the cookies of the file are unchanged:
+    /// - `System`: the system cannot open or create the file, or it has a second name.
+    /// - `Locked`: another process or store has the file open.
+    /// - `Journal`: SQLite left a rollback journal.
+    /// - `Foreign`: the file is not a SQLite file with the table `cookies` and nothing else.
+    /// - `Damaged`: the file is damaged, a row is not that of a cookie, or two rows have the same
+    ///   domain, path and name.
+    /// - `Full`: the last rowid is the greatest that there is.
+    /// - `OutOfMemory`: out of memory. May be returned instead of any other error.
+    /// - `File`: the file failed. May be returned instead of any error from `Foreign` on. The session
+    ///   cookies may have been removed.
+    pub fn open_path(
+        rt: &HostRuntime,
+        path: &str,
+        keep_session: bool,
+        start: S,
+    ) -> Result<DurableStore<FileStore<FileFrom<S>>>, OpenError>
+        ensures in_step { IfOk result (λ d. IsInStep d (view d.file)) }
+        ensures works { IfOk result (λ d. d.is_failed ≡ false) }
+        ensures found { IfOk result (λ d. IsClean (view d.file) → FindsCookies keep_session (image_at S.Start) d.store) }
+        ensures guarded { IfOk result (λ d. IsClean (view d.file) → is_shielded d.file) }
+    {
+        if let Err(error) = make_private(rt, path) {
+            return Err(OpenError::of_system(error.kind()));
+        }
+        let files = match sqlite_std_file::open(rt, path, start) {
+            Ok(files) => files,
+            Err(error) => return Err(OpenError::from(error)),
+        };
+        let options = match options(rt) {
+            Ok(options) => options,
+            Err(error) => return Err(OpenError::of_system(error.kind())),
+        };
+        match DurableStore::open_files(rt.alloc(), files, options, keep_session) {
+            Ok(opened) => Ok(opened),
+            Err((error, _)) => Err(error),
+        }
+    }
+}
+
+// Creates the file if it is missing, for its owner alone.
+fn make_private(rt: &HostRuntime, path: &str) -> io::Result<()> {
+    match OpenOptions::new()
+        .write(true)
+        .create_new(true)
+        .mode(0o600)
+        .open(rt, path)
+    {
+        Ok(_) => Ok(()),
+        Err(error) if error.kind() == io::ErrorKind::AlreadyExists => Ok(()),
+        Err(error) => Err(error),
+    }
+}
+
+// Returns the options of the kit, with a random seed for the salts of the log.
+fn options(rt: &HostRuntime) -> io::Result<Options> {
+    let seed = RandomState::new(rt)?.hash_one(&0u8);
+    Ok(Options::new(seed))
+}
