@@ -12,6 +12,7 @@ TOOLS = os.path.dirname(os.path.abspath(__file__))
 ROOT = os.path.dirname(TOOLS)
 PROGRAM = os.path.realpath(os.environ.get('COOKIE_JAR') or f'{ROOT}/crates/cookie_jar/out/cookie_jar')
 COOKIES = os.path.realpath(os.environ.get('COOKIES') or f'{ROOT}/crates/cookies/out/cookies')
+SESSION = os.path.realpath(os.environ.get('DURABLE_SESSION') or f'{ROOT}/crates/durable_session/out/durable_session')
 ARCHIVE = os.path.realpath(os.environ.get('COOKIE_STORE_ARCHIVE') or f'{ROOT}/crates/cookie_store_c/out/libcookie_store_c.a')
 TOOL = os.path.basename(sys.argv[0])
 

@@ -64,6 +64,10 @@ identity() {
     tree=$(git rev-parse 'HEAD^{tree}') && [ -z "$(git status --porcelain)" ] && echo "$tree $(rt version)"
 }
 
+# full_check ARCHIVE: prints what out/full_check has once tools/test passed of the commit: its tree, the toolchain, and the sum of
+# the archive that was tested. Fails if a file is not as in the commit.
+full_check() { identity && sha256sum < "$1"; }
+
 # exported LIBRARY: prints the symbols that a shared library exports, with their version, one a line.
 exported() { nm -D --defined-only --with-symbol-versions "$1" | awk '$2 != "A" { print $3 }' | LC_ALL=C sort; }
 

@@ -1,6 +1,6 @@
 // Makes one allocation fail: preloaded (LD_PRELOAD) into a program, it replaces the C library's
-// `malloc` and `realloc`, and passes on every call but one. `tools/allocations` and `tools/bindings`
-// build it.
+// `malloc` and `realloc`, and passes on every call but one. `tools/allocations`, `tools/bindings` and
+// `tools/durable` build it.
 //
 //   FAIL_ALLOCATION=k    the allocation that fails, from 1
 //   FAIL_MARK=FILE       the file that is created when it fails
@@ -8,9 +8,10 @@
 //
 // Without COUNT_FROM_START a test marks the allocations that count by two of odd sizes: one of
 // START bytes (`Vec::<u8>::with_capacity(alloc, 48_271)?`) starts the count at 0, and one of END
-// bytes ends it. So what a test allocates before its call, or to compare after it, never fails. A
-// test may start the count again for its next call. There are no headers, so that a compiler
-// without the C library builds it, with -nostdlib.
+// bytes ends it, and fails if one of those counted did: so the test knows whether its call had
+// ample memory. What a test allocates before its call, or to compare after it, never fails. A test
+// may start the count again for its next call. There are no headers, so that a compiler without the
+// C library builds it, with -nostdlib.
 
 enum { START = 48271, END = 48281 };
 
@@ -24,14 +25,17 @@ int close(int file);
 int *__errno_location(void);
 
 static int is_counting;
+static int did_fail; // since the start of the count
 static unsigned long count;
 
 // Whether this allocation is the one that fails.
 static int fails(size_t size) {
     if (size == START || size == END) {
+        int fails_now = size == END && did_fail;
         is_counting = size == START;
+        did_fail = 0;
         count = 0;
-        return 0;
+        return fails_now;
     }
     if (!is_counting && !getenv("COUNT_FROM_START")) return 0;
     count++;
@@ -39,6 +43,7 @@ static int fails(size_t size) {
     unsigned long failing = 0;
     while (digits && *digits >= '0' && *digits <= '9') failing = 10 * failing + (*digits++ - '0');
     if (count != failing) return 0;
+    did_fail = 1;
     const char *mark = getenv("FAIL_MARK");
     if (mark) close(creat(mark, 0644));
     *__errno_location() = 12; // ENOMEM

@@ -105,6 +105,9 @@
  *   such as a lock or a join. Different stores may be used at the same time. No function may be
  *   called from a signal handler, or in the forked child of a program that has threads.
  *
+ *   In the tests with large input the stack of a call is at most 144 KB for loading a list in JSON
+ *   or RON, however deeply nested, and 40 KB for other calls.
+ *
  * ABI
  *
  *   The soname libcookie_store.so.0 and the symbol version COOKIE_STORE_0 promise: functions and

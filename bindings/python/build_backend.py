@@ -80,7 +80,7 @@ def library():
         return read(named)
     if not in_repository():
         sys.exit('cookie_store: COOKIE_STORE_LIBRARY must name the C library')
-    if shutil.which('rt') is None:
+    if shutil.which('rt') is None and not os.environ.get('COOKIE_STORE_ARCHIVE'):
         sys.exit('cookie_store: the C library is built by the toolchain, and rt is not on the path: name a built library by '
                  'COOKIE_STORE_LIBRARY=FILE, or install the wheel of the release archive')
     # These would have the files written elsewhere.

@@ -12,7 +12,7 @@ MINUTES = 8  # after which a command is stopped
 BEHIND = 'Warning: '  # begins the lines of a command that found a peer ahead, and has printed its figures
 RATIOS = 'BENCH_RATIOS'  # the variable that names the file of a command's ratios: a figure, a peer and a ratio in JSON a line
 COMMANDS = [f'tools/bench {words}' for words in
-            ('requests 50 20 2000', 'convert 10000 100000', 'bindings', 'sites', 'lists 10000', 'header')]
+            ('requests 50 20 2000', 'convert 10000 100000', 'durable', 'bindings', 'sites', 'lists 10000', 'header')]
 
 
 def environment(program, archive, lists):

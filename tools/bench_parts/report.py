@@ -61,13 +61,13 @@ def ratio(peer, own):
     return f'{value:.2f}' if value >= 0.1 else f'{value:#.2g}'
 
 
-def behind(figure, peer, value):
-    """A warning if the peer is faster or smaller by more than figures differ from run to run. A command that `stores --write` runs
-    records the ratio."""
+def behind(figure, peer, value, least=SLOWEST):
+    """A warning if the ratio is below the least one, by default if the peer is faster or smaller by more than figures differ from run
+    to run. A command that `stores --write` runs records the ratio."""
     if value is not None and RATIOS in os.environ:
         with open(os.environ[RATIOS], 'a', encoding='utf-8') as file:
             file.write(f'{json.dumps([figure, peer, f"{value:.2f}"])}\n')
-    if value is not None and value < SLOWEST:
+    if value is not None and value < least:
         yield f'{BEHIND}{peer} is ahead: {figure}, ratio {value:.2f}.'
 
 
@@ -132,10 +132,11 @@ apt-get install cargo librust-cookie-store-dev librust-cookie-dev librust-public
 tools/bench --write                         # on an idle machine
 ```
 
-A peer or a tool that is missing is left out. Three of the other commands need builds of their own:
+A peer or a tool that is missing is left out. Four of the other commands need builds of their own:
 
 ```sh
 (cd crates/cookie_store_c && rt lib)       # the library, or another one by --archive FILE
+(cd crates/durable_session && rt run -- "$(mktemp -d)/cookies.sqlite" < stdin)
 tools/bench lists 1 --lists FOLDER         # some ten minutes
 tools/bench header --lists FOLDER          # some ten more
 tools/bench --write --lists FOLDER

@@ -48,6 +48,25 @@ calls_each() {
     for name in $(declared); do grep -qw "$name" bindings/c/test_large.c || { echo "$name"; return 1; }; done
 }
 
+# The header, the manual page and README.md have the sizes of the stack that test_large.c allows.
+names_stack() {
+    local nested other
+    nested=$(sed -nE 's/.*\bNESTED = ([0-9]+) << 10.*/\1/p' bindings/c/test_large.c)
+    other=$(sed -nE 's/.*\bSTACK = ([0-9]+) << 10.*/\1/p' bindings/c/test_large.c)
+    for file in bindings/c/cookie_store.h docs/cookie_store.3 bindings/c/README.md; do
+        tr -s ' *\n' ' ' < "$file" |
+            grep -q "at most $nested KB for loading a list in JSON or RON, however deeply nested, and $other KB for other calls" ||
+            { echo "$file has other sizes"; return 1; }
+    done
+}
+
+# A call that uses more of the stack than test_large.c allows is an error.
+finds_stack() {
+    sed 's/NESTED = [0-9]* <</NESTED = 8 <</' bindings/c/test_large.c > "$temp/shallow.c" &&
+        "$cc" "${flags[@]}" -pthread -I bindings/c -o "$temp/shallow" "$temp/shallow.c" "$lib/libcookie_store.a" &&
+        ! "$temp/shallow" 2> "$temp/why" && grep '^nested lists: FAILED' "$temp/why"
+}
+
 # Each allocation fails in turn. Valgrind has an allocator of its own.
 test_allocations() {
     if try test_allocations.c "$cc" "${flags[@]}" -o "$temp/allocations" bindings/c/test_allocations.c "$lib/libcookie_store.a" &&
@@ -123,10 +142,20 @@ lists_files() {
         <(find . -type f ! -path ./MANIFEST | LC_ALL=C sort))
 }
 
-# Without --unchecked a release needs the full check of the commit to have passed.
+# commits SCRIPT: changes the headings of CHANGELOG.md by a script of sed, and the full check passes of the commit.
+commits() {
+    sed -i "/^## /$1" CHANGELOG.md && git -c user.name=test -c user.email=test@test commit -q --allow-empty -am headings &&
+        full_check "$COOKIE_STORE_ARCHIVE" > out/full_check
+}
+
+# Without --unchecked a release needs the full check of the commit and of the archive to have passed, and a version that CHANGELOG.md
+# calls released.
 needs_check() (
-    git clone -q . "$temp/clone" && cd "$temp/clone" || exit
-    ! tools/release "$temp/third" && [ ! -e "$temp/third" ] && mkdir out && identity > out/full_check && tools/release "$temp/third"
+    local not_passed='^release: tools/test has not passed ' release=(tools/release "$temp/third")
+    git clone -q . "$temp/clone" && cd "$temp/clone" && mkdir out || exit
+    says "$not_passed" "${release[@]}" && commits 's/$/, not yet released/' && says '^release: CHANGELOG.md says' "${release[@]}" &&
+        commits 's/, not yet released//g' && echo >> README.md && says "$not_passed" "${release[@]}" && git checkout -q README.md &&
+        says "$not_passed" env COOKIE_STORE_ARCHIVE=README.md "${release[@]}" && [ ! -e "$temp/third" ] && "${release[@]}"
 )
 
 # A library that does not export what bindings/c/abi.txt lists is not released.
@@ -187,6 +216,8 @@ for kind in shared static; do
     test_program test_large "$kind"
 done
 try 'calls of test_large.c' calls_each || true
+try 'sizes of the stack' names_stack || true
+try 'a stack that is too small' finds_stack || true
 test_program test_threads shared
 if has valgrind; then
     try 'helgrind of test_threads.c' timeout 100 valgrind -q --tool=helgrind --error-exitcode=9 "$temp/test_threads" || true

@@ -142,7 +142,10 @@ class Readers:
         """What the store and libcurl make of a file."""
         self.given.write(b'%d %d\n%b' % (FORMATS[form], len(file), file))
         self.given.flush()
-        status, malformed = self.made.readline().split() or stop(f'the C library ended at {file!r}')
+        answer = self.made.readline().split()
+        if not answer:
+            raise Failed('the C library ended')
+        status, malformed = answer
         return Reading(int(status), int(malformed), *(self.made.read(int(self.made.readline())) for _ in range(2)))
 
     def written_by_python(self, file):
@@ -162,7 +165,10 @@ class Readers:
     def convert(self, file, form='txt'):
         """The result of `cookies convert` on a file."""
         words = ['convert', '--skip-malformed', '--from', form, '--to', form, '-', '-']
-        return subprocess.run([self.program, *words], input=file, capture_output=True, timeout=20)
+        try:
+            return subprocess.run([self.program, *words], input=file, capture_output=True, timeout=20)
+        except subprocess.TimeoutExpired as late:
+            raise Failed('cookies convert does not end') from late
 
 
 def is_excepted(name, line):

@@ -47,9 +47,12 @@ def replay_urls(folder, archive):
     if reason:
         print(f'fuzz urls: skipped: {reason}')
         return
-    _, lines = urls.compare(corpus_files.values('urls'), folder, archive)
+    entries = list(corpus_files.entries('urls'))
+    _, lines = urls.compare((entry.value for entry in entries), folder, archive)
     if lines:
-        stop(f'urls.txt: the hosts differ: {lines[0]}')
+        # none has the URL if only the one that libcurl writes differs
+        place = next((entry.place for entry in entries if entry.value == urls.url_of(lines[0])), 'urls.txt')
+        stop(f'{place}: the hosts differ: {lines[0]}')
 
 
 def replay_files(folder, archive):

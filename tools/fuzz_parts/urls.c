@@ -1,15 +1,18 @@
 /* Reads URLs, each followed by a zero byte, and prints those in which libcurl and the store find two hosts: on a line the URL,
-   libcurl's host and the store's. The last two lines have the counts. tools/fuzz urls runs it, and says what is compared. */
+   libcurl's host and the store's. The last two lines have the counts. If it fails or crashes, standard error has the URL, a zero byte
+   and why. tools/fuzz urls runs it, and says what is compared. */
 #include <arpa/inet.h>
 #include <cookie_store.h>
 #include <curl/curl.h>
 #include <err.h>
 #include <locale.h>
+#include <signal.h>
 #include <stdbool.h>
 #include <stdio.h>
 #include <stdlib.h>
 #include <string.h>
 #include <strings.h>
+#include <unistd.h>
 
 #ifndef CURLU_PUNYCODE
 enum { CURLU_PUNYCODE = 0 };
@@ -20,7 +23,7 @@ static const unsigned int LENIENT = CURLU_GUESS_SCHEME | CURLU_NON_SUPPORT_SCHEM
 
 static const char *const SCHEMES[] = {"http", "https", "ws", "wss", "ftp"};
 
-enum { ROOM = 1 << 16 };
+enum { ROOM = 1 << 16, FAILED = 3 };
 
 /* How many URLs there were, libcurl accepts, the store accepts, both accept, and have two hosts, with a scheme that is compared
    or with another one. */
@@ -29,6 +32,18 @@ struct counts {
 };
 
 static cookie_store store = COOKIE_STORE_INIT;
+static const char *current = ""; /* the URL that is compared */
+
+/* Ends the program. */
+static void fail(const char *why) {
+    bool is_written = write(STDERR_FILENO, current, strlen(current) + 1) > 0 && write(STDERR_FILENO, why, strlen(why)) > 0;
+    _exit(is_written ? FAILED : EXIT_FAILURE);
+}
+
+static void crash(int number) {
+    (void)number;
+    fail("the program crashes");
+}
 
 /* Whether a string is one of SCHEMES up to `length`. */
 static bool is_compared(const char *scheme, size_t length) {
@@ -40,7 +55,7 @@ static bool is_compared(const char *scheme, size_t length) {
 /* Returns libcurl's parts of a URL, or NULL. */
 static CURLU *parse(const char *url) {
     CURLU *parts = curl_url();
-    if (!parts) errx(1, "out of memory");
+    if (!parts) fail("out of memory");
     if (curl_url_set(parts, CURLUPART_URL, url, LENIENT) == CURLUE_OK) return parts;
     curl_url_cleanup(parts);
     return NULL;
@@ -70,11 +85,11 @@ static bool store_host(const char *url, char *host) {
     size_t rows, length;
     enum cookie_store_status status = cookie_store_parse(&store, url, strlen(url), "a=1", 3, 0);
     if (status >= 10) {
-        if (status == COOKIE_STORE_NO_MEMORY) errx(1, "%s", cookie_store_status_text(status));
+        if (status == COOKIE_STORE_NO_MEMORY) fail(cookie_store_status_text(status));
         return false;
     }
     status = cookie_store_rows(&store, &row, 1, strings, sizeof strings, &rows, &length);
-    if (status != COOKIE_STORE_OK || row.domain_len >= ROOM) errx(1, "cookie_store_rows: %s", cookie_store_status_text(status));
+    if (status != COOKIE_STORE_OK || row.domain_len >= ROOM) fail("cookie_store_rows does not return the cookie");
     memcpy(host, strings, row.domain_len);
     host[row.domain_len] = 0;
     cookie_store_clear(&store);
@@ -113,6 +128,7 @@ static void print_word(const char *string, char end) {
 }
 
 static void compare(const char *url, struct counts *counts) {
+    current = url;
     static char from_curl[ROOM], from_store[ROOM];
     bool compared = false, in_curl = curl_host(url, from_curl, &compared), in_store = store_host(url, from_store);
     counts->urls++;
@@ -151,6 +167,8 @@ int main(void) {
     struct counts given = {0}, written = {0};
     char *url = NULL;
     size_t room = 0;
+    static const int CRASHES[] = {SIGSEGV, SIGABRT, SIGBUS, SIGFPE, SIGILL};
+    for (size_t i = 0; i < sizeof CRASHES / sizeof CRASHES[0]; i++) signal(CRASHES[i], crash);
     setlocale(LC_CTYPE, "C.UTF-8"); /* libcurl converts hosts from the locale's encoding */
     if (cookie_store_new(&store, "", 0) != COOKIE_STORE_OK) errx(1, "out of memory");
     while (getdelim(&url, &room, 0, stdin) > 0) {

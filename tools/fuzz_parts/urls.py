@@ -49,6 +49,7 @@ PIECES = [
     '%', '%2e', '%2E', '%41', '%00', '%40', '%2f', '%5c', '%25', '%3a', '%c3%bc', '%ff', '..', '0x', ':80', '//', 'xn--',
     *'\u00a0\u00df\u00fc\u200b\u2100\u2488\u3002\ufeff\uff0e\uff0f\uff1a\uff20\U0001f36a',
 ]
+FAILED = 3  # the status if a URL makes the program fail, which urls.c prints
 LEADING = [' ', '\t', '\n', '\x01', '\x1f', '/', '\\', '\u00a0', '\ufeff']
 
 
@@ -77,6 +78,9 @@ def compare(given, folder, archive):
     differ, with the hosts."""
     program = compile_part('urls', folder, archive, '-lcurl')
     status, printed, errors = feed([program], (each + b'\0' for each in given), folder)
+    if status == FAILED:
+        failing, _, why = errors.partition(b'\0')
+        corpus_files.stop_with(why.decode(), 'urls', failing)
     if status not in (0, 1) or errors:
         stop(f'urls: status {status}: {errors.decode()}')
     *lines, as_given, as_written = printed.decode('ascii').splitlines()

@@ -11,6 +11,7 @@ pub mod ReadRows
 pub mod RowEdits
 pub mod SavedFiles
 pub mod SessionRows
+pub mod StrictCalls
 pub mod SweptFiles
 pub mod SweptRows
 pub mod TouchedKeys

@@ -1,8 +1,12 @@
--- Cookies that cannot be written.
-use Rattle.std.specs.Prelude.{◌≡◌, ℕ, ◌+◌, pos, Bool, ◌||◌, IsTrue, List, length, nat_lt, Option, Some, None}
-use Rattle.cookie_parts.specs.Cookie.{Row}
+-- Cookies that cannot be written, and why calls fail.
+use Rattle.std.specs.Prelude.{◌≡◌, ℕ, ◌+◌, ℤ, pos, Bool, ◌||◌, IsTrue, List, length, nat_lt, is_some, Option, Some, None}
+use Rattle.std.specs.Result.{result_ok}
+use Rattle.cookie_words.specs.Moments.{Moment}
+use Rattle.cookie_parts.specs.Cookie.{Row, cookie_from_header}
 use Rattle.cookie_parts.specs.Domain.{domain_text}
-use Rattle.cookie_table.specs.WholeSeconds.{has_early_time}
+use Rattle.cookie_parts.specs.Hosts.{passes}
+use Rattle.cookie_laws.specs.Runs.{Call, Insert, Set}
+use Rattle.cookie_table.specs.WholeSeconds.{has_early_time, is_early}
 use Rattle.cookie_durable.specs.Durable.{Durable}
 use Rattle.cookie_durable.specs.declared.durable_error.DurableError.{DurableError}
 use Rattle.cookie_durable.specs.declared.durable_error.DurableError.TheVariants.{Failed, Full, NotWritten, OutOfMemory, Unstorable}
@@ -26,10 +30,29 @@ most_text = 999_999_000
 abbrev pub is_unstorable : Row → Bool
 is_unstorable cookie = nat_lt most_text (text_len cookie) || has_early_time cookie
 
--- why a call that inserts this cookie may fail
-abbrev pub IsReasonAt : {S : Type 0} → DurableError → Durable S → Row → Type 0
-IsReasonAt Failed d cookie = IsTrue d.is_failed
-IsReasonAt Unstorable d cookie = IsTrue (is_unstorable cookie)
-IsReasonAt Full d cookie = d.next ≡ pos 9_223_372_036_854_775_807
-IsReasonAt OutOfMemory d cookie = Unit {0}
-IsReasonAt (NotWritten cause) d cookie = Unit {0}
+-- the cookie that a call is to insert: for `Set` that of the header value, unless it is rejected
+abbrev pub cookie_of_call : Call → Option Row
+cookie_of_call (Set text url now) = result_ok (cookie_from_header text url now)
+cookie_of_call (Insert cookie url now) = Some cookie
+cookie_of_call other = None
+
+-- the greatest rowid that there is
+abbrev pub greatest_rowid : ℤ
+greatest_rowid = pos 9_223_372_036_854_775_807
+
+-- why a call may fail that is to insert this cookie, if there is one; only such a call finds it unstorable, or no rowid left
+abbrev pub IsReasonFor : {S : Type 0} → DurableError → Durable S → (Row → Bool) → Option Row → Type 0
+IsReasonFor Failed d unstorable cookie = IsTrue d.is_failed
+IsReasonFor Unstorable d unstorable cookie = IsTrue (passes unstorable cookie)
+IsReasonFor Full d unstorable cookie = IsTrue (is_some cookie) × (d.next ≡ greatest_rowid)
+IsReasonFor OutOfMemory d unstorable cookie = Unit {0}
+IsReasonFor (NotWritten cause) d unstorable cookie = Unit {0}
+
+-- why a call may fail
+abbrev pub IsReasonOf : {S : Type 0} → DurableError → Durable S → Call → Type 0
+IsReasonOf error d call = IsReasonFor error d is_unstorable (cookie_of_call call)
+
+-- a cookie cannot be written that is received at this time under the rules of browsers, by which it expires at most 400 days
+-- later
+abbrev pub is_unstorable_at : Moment → Row → Bool
+is_unstorable_at now cookie = is_early now || is_unstorable cookie

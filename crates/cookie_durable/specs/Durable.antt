@@ -9,7 +9,7 @@ use Rattle.durable_table.specs.Transactions.{IsReady}
 use Rattle.cookie_durable.specs.Numbering.{Ids, IsNumbered}
 use Rattle.cookie_durable.specs.Saved.{Holds}
 use Rattle.cookie_durable.specs.declared.durable_error.DurableError.{DurableError}
-use Rattle.cookie_durable.specs.declared.durable_error.DurableError.TheVariants.{Failed, NotWritten, OutOfMemory}
+use Rattle.cookie_durable.specs.declared.durable_error.DurableError.TheVariants.{NotWritten}
 
 -- A durable store:
 -- - `store`: the cookies
@@ -43,13 +43,6 @@ IsUnwritten old new = (old.is_broken ≡ false) × (new ≡ record old { cursors
 abbrev pub IsNotWritten : DurableError → Type 0
 IsNotWritten (NotWritten cause) = Unit {0}
 IsNotWritten other = ⊥
-
--- why a call that removes cookies may fail
-abbrev pub IsReasonOf : {S : Type 0} → DurableError → Durable S → Type 0
-IsReasonOf Failed d = IsTrue d.is_failed
-IsReasonOf OutOfMemory d = Unit {0}
-IsReasonOf (NotWritten cause) d = Unit {0}
-IsReasonOf other d = ⊥
 
 -- What a call leaves that changes the cookies, by its result:
 -- - `Ok`: the cookies after the call, in a store that works as before

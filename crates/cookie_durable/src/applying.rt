@@ -1,9 +1,10 @@
 //! Calls as values, executed one after the other.
-ghost use Rattle.std.specs.Prelude.{◌≡◌, ◌≤◌, false, length, map, take, Err, IfOk, IsTrue, OnOk};
+ghost use Rattle.std.specs.Prelude.{◌≡◌, ◌≤◌, false, length, map, take, Err, IfErr, IfOk, IsTrue, OnOk};
 ghost use Rattle.sqlite_trees.specs.Tree.{Trees};
 ghost use Rattle.sqlite_trees.specs.View.{doubt, IsClean};
 ghost use Rattle.cookie_core.specs.CallViews.{call_view, reply_view};
 ghost use Rattle.cookie_laws.specs.Runs.{replies, step, store_after};
+ghost use Rattle.cookie_durable.specs.Checks.{IsReasonOf};
 ghost use Rattle.cookie_durable.specs.Durable.{ChangesTo, HoldsAfterPrefix, IsAtomic, IsInStep};
 
 use crate::{DurableError, DurableStore};
@@ -30,6 +31,7 @@ impl<S: Store> DurableStore<S> {
         ensures crash { IsAtomic S.Store.view S.Store.recovers self.old self.new (step (call_view call) self.old.store).store }
 
         ensures failed { IsTrue self.old.is_failed → result ≡ Err DurableError.Failed }
+        ensures reason { IfErr result (λ e. IsReasonOf e self.old (call_view call)) }
         ensures table { self.new.table ≡ self.old.table }
         ensures clean { doubt (S.Store.view self.old.file).is_clean ≤ doubt (S.Store.view self.new.file).is_clean }
     {

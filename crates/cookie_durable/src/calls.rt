@@ -7,13 +7,12 @@ ghost use Rattle.durable_table.specs.Transactions.{IsReady};
 ghost use Rattle.cookie_laws.specs.Contents.{Contents};
 ghost use Rattle.cookie_laws.specs.Rows.{key_at};
 ghost use Rattle.cookie_laws.specs.Runs.{step, Clear, Insert, Remove, Removed, Set, Stored};
-ghost use Rattle.cookie_durable.specs.Durable.{ChangesTo, IsAtomic, IsInStep, IsNotWritten, IsReasonOf, IsSaved};
-ghost use Rattle.cookie_durable.specs.Checks.{is_unstorable, IsReasonAt};
+ghost use Rattle.cookie_durable.specs.Durable.{ChangesTo, IsAtomic, IsInStep, IsNotWritten, IsSaved};
+ghost use Rattle.cookie_durable.specs.Checks.{is_unstorable, IsReasonOf};
 ghost use Rattle.cookie_durable.specs.Numbering.{key_in, Touches};
 ghost use Rattle.cookie_durable.specs.Saved.{Holds};
 
 use crate::changes::deletions;
-use crate::checking::check_cookie;
 use crate::numbering::{Names, names_of};
 use crate::receiving::{insert_received, parse_header};
 use crate::writing::write_cookie;
@@ -50,6 +49,7 @@ impl<S: Store> DurableStore<S> {
         ensures crash { IsAtomic S.Store.view S.Store.recovers self.old self.new (step (Set text.now url.now (moment_of now)) self.old.store).store }
 
         ensures failed { IsTrue self.old.is_failed → result ≡ Err DurableError.Failed }
+        ensures reason { IfErr result (λ e. IsReasonOf e self.old (Set text.now url.now (moment_of now))) }
         ensures table { self.new.table ≡ self.old.table }
         ensures clean { doubt (S.Store.view self.old.file).is_clean ≤ doubt (S.Store.view self.new.file).is_clean }
     {
@@ -90,24 +90,15 @@ impl<S: Store> DurableStore<S> {
         ensures crash { IsAtomic S.Store.view S.Store.recovers self.old self.new (step (Insert cookie.entry url.now (moment_of now)) self.old.store).store }
 
         ensures failed { IsTrue self.old.is_failed → result ≡ Err DurableError.Failed }
+        ensures reason { IfErr result (λ e. IsReasonOf e self.old (Insert cookie.entry url.now (moment_of now))) }
         ensures unstorable { self.old.is_failed ≡ false → IsTrue (is_unstorable cookie.entry) → result ≡ Err DurableError.Unstorable }
-        ensures reason { IfErr result (λ e. IsReasonAt e self.old cookie.entry) }
         ensures table { self.new.table ≡ self.old.table }
         ensures clean { doubt (S.Store.view self.old.file).is_clean ≤ doubt (S.Store.view self.new.file).is_clean }
     {
         if self.is_failed {
             return Err(DurableError::Failed);
         }
-        check_cookie(alloc, &cookie)?;
-        if self.next == i64::MAX {
-            return Err(DurableError::Full);
-        }
-        let names = names_of(
-            alloc,
-            cookie.domain.as_str(),
-            cookie.path.as_str(),
-            cookie.name(),
-        )?;
+        let names = self.names_to_write(alloc, &cookie)?;
         match insert_received(&mut self.store, cookie, url, now)? {
             Ok(action) => {
                 self.write(alloc, names)?;
@@ -142,7 +133,7 @@ impl<S: Store> DurableStore<S> {
         ensures crash { IsAtomic S.Store.view S.Store.recovers self.old self.new (step (Remove (key_at domain.now path.now name.now)) self.old.store).store }
 
         ensures failed { IsTrue self.old.is_failed → result ≡ Err DurableError.Failed }
-        ensures reason { IfErr result (λ e. IsReasonOf e self.old) }
+        ensures reason { IfErr result (λ e. IsReasonOf e self.old (Remove (key_at domain.now path.now name.now))) }
         ensures table { self.new.table ≡ self.old.table }
         ensures clean { doubt (S.Store.view self.old.file).is_clean ≤ doubt (S.Store.view self.new.file).is_clean }
     {
@@ -172,7 +163,7 @@ impl<S: Store> DurableStore<S> {
         ensures crash { IsAtomic S.Store.view S.Store.recovers self.old self.new (step Clear self.old.store).store }
 
         ensures failed { IsTrue self.old.is_failed → result ≡ Err DurableError.Failed }
-        ensures reason { IfErr result (λ e. IsReasonOf e self.old) }
+        ensures reason { IfErr result (λ e. IsReasonOf e self.old Clear) }
         ensures table { self.new.table ≡ self.old.table }
         ensures clean { doubt (S.Store.view self.old.file).is_clean ≤ doubt (S.Store.view self.new.file).is_clean }
     {
@@ -192,8 +183,8 @@ impl<S: Store> DurableStore<S> {
         }
     }
 
-    // Commits the cookie of a key as the store has it now, or its removal.
-    fn write(&mut self, alloc: Global, names: Names) -> Result<(), DurableError>
+    /// Commits the cookie of a key as the store has it now, or its removal.
+    pub(crate) fn write(&mut self, alloc: Global, names: Names) -> Result<(), DurableError>
         requires { IsClean (S.Store.view self.old.file) → IsReady self.old.table (S.Store.view self.old.file) }
         ensures ready { IsClean (S.Store.view self.new.file) → IsReady self.new.table (S.Store.view self.new.file) }
         ensures saved { OnOk result ((before : Contents) → Touches (key_in names) before self.old.store → IsClean (S.Store.view self.new.file)

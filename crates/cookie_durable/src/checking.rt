@@ -1,25 +1,57 @@
 //! Checks of a cookie before anything changes.
-ghost use Rattle.std.specs.Prelude.{◌≡◌, ◌↔◌, ◌⊎◌, ◌<◌, ◌^◌, Err, IfErr, IsTrue};
+ghost use Rattle.std.specs.Prelude.{◌≡◌, ◌↔◌, ◌⊎◌, ◌<◌, ◌^◌, Err, IfErr, IfOk, IsTrue};
 ghost use Rattle.std.specs.Option.{option_copied};
-ghost use Rattle.cookie_durable.specs.Checks.{is_unstorable, len_if_any, text_len};
+ghost use Rattle.cookie_laws.specs.Rows.{key_of};
+ghost use Rattle.cookie_durable.specs.Checks.{greatest_rowid, is_unstorable, len_if_any, text_len};
+ghost use Rattle.cookie_durable.specs.Numbering.{key_in};
 
-use crate::DurableError;
+use crate::numbering::{Names, names_of};
+use crate::{DurableError, DurableStore};
 use cookie_forms::SavedError;
 use cookie_parts::Cookie;
 use cookie_table::to_row;
+use sqlite_trees::store::Store;
 use std::alloc::Global;
 
 // A row may have a billion bytes, with 18 for each value: the rest is left for these and for times.
 const MOST_TEXT: u128 = 999_999_000;
 
-/// Checks whether the cookie can be written.
-///
-/// # Errors
-///
-/// - `Unstorable`: its strings have more than 999,999,000 bytes together, or its expiry or Expires
-///   attribute is before the year 0.
-/// - `OutOfMemory`: out of memory.
-pub(crate) fn check_cookie(alloc: Global, cookie: &Cookie<'static>) -> Result<(), DurableError>
+impl<S: Store> DurableStore<S> {
+    /// Checks whether the cookie can be written, and returns its domain, path and name.
+    ///
+    /// # Errors
+    ///
+    /// In the order in which they are checked:
+    /// - `Unstorable`: its strings have more than 999,999,000 bytes together, or its expiry or Expires
+    ///   attribute is before the year 0.
+    /// - `Full`: no rowid is left.
+    /// - `OutOfMemory`: out of memory.
+    pub(crate) fn names_to_write(
+        &self,
+        alloc: Global,
+        cookie: &Cookie<'static>,
+    ) -> Result<Names, DurableError>
+        ensures key { IfOk result (λ names. key_in names ≡ key_of cookie.now) }
+        ensures unstorable { IsTrue (is_unstorable cookie.now) → result ≡ Err DurableError.Unstorable }
+        ensures errors { IfErr result (λ e. ((e ≡ DurableError.Unstorable) × IsTrue (is_unstorable cookie.now))
+            ⊎ (((e ≡ DurableError.Full) × (self.now.next ≡ greatest_rowid)) ⊎ (e ≡ DurableError.OutOfMemory))) }
+    {
+        check_cookie(alloc, cookie)?;
+        if self.next == i64::MAX {
+            return Err(DurableError::Full);
+        }
+        let names = names_of(
+            alloc,
+            cookie.domain.as_str(),
+            cookie.path.as_str(),
+            cookie.name(),
+        )?;
+        Ok(names)
+    }
+}
+
+// Checks whether the cookie can be written, if a rowid is left.
+fn check_cookie(alloc: Global, cookie: &Cookie<'static>) -> Result<(), DurableError>
     ensures unstorable { IsTrue (is_unstorable cookie.now) ↔ (result ≡ Err DurableError.Unstorable) }
     ensures errors { IfErr result (λ e. (e ≡ DurableError.Unstorable) ⊎ (e ≡ DurableError.OutOfMemory)) }
 {

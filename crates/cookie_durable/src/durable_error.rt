@@ -13,7 +13,7 @@ pub enum DurableError {
     Unstorable,
     /// Out of memory. Nothing has changed.
     OutOfMemory,
-    /// The call changed the cookies, and the change was not written: this is the error of the file.
+    /// The call changed the cookies, and the change was not written, for this reason.
     NotWritten(StoreError),
 }
 

@@ -1,9 +1,9 @@
 //! Removing expired cookies.
-ghost use Rattle.std.specs.Prelude.{◌≡◌, ◌+◌, ◌≤◌, length, Err, IfErr, IfOk, IsTrue};
+ghost use Rattle.std.specs.Prelude.{◌≡◌, ◌⊎◌, ◌+◌, ◌≤◌, length, Err, IfErr, IfOk, IsTrue};
 ghost use Rattle.cookie_words.specs.Moments.{moment_of};
 ghost use Rattle.sqlite_trees.specs.View.{doubt};
 ghost use Rattle.cookie_laws.specs.Contents.{unexpired};
-ghost use Rattle.cookie_durable.specs.Durable.{ChangesTo, IsAtomic, IsInStep, IsReasonOf};
+ghost use Rattle.cookie_durable.specs.Durable.{ChangesTo, IsAtomic, IsInStep, IsNotWritten};
 
 use crate::writing::write_removals;
 use crate::{DurableError, DurableStore};
@@ -30,7 +30,7 @@ impl<S: Store> DurableStore<S> {
         ensures crash { IsAtomic S.Store.view S.Store.recovers self.old self.new (unexpired (moment_of now) self.old.store) }
 
         ensures failed { IsTrue self.old.is_failed → result ≡ Err DurableError.Failed }
-        ensures reason { IfErr result (λ e. IsReasonOf e self.old) }
+        ensures reason { IfErr result (λ e. IsTrue self.old.is_failed ⊎ IsNotWritten e) }
         ensures table { self.new.table ≡ self.old.table }
         ensures clean { doubt (S.Store.view self.old.file).is_clean ≤ doubt (S.Store.view self.new.file).is_clean }
     {

@@ -21,6 +21,7 @@ mod open_error;
 mod opening;
 mod receiving;
 mod sessions;
+pub mod strict;
 mod sweeping;
 mod writing;
 

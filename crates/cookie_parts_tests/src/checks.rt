@@ -1,48 +1,36 @@
-//! Assertions that all tests use; each names the row of the table that failed.
+//! Assertions, whose messages name the row of a table.
 use std::alloc::Global;
 use std::cmp::Ordering;
 use std::fmt::{Debug, Display};
 use std::hash::{DefaultHasher, Hash, Hasher};
 use std::process::Abort;
 
-// Asserts that the outcome is the expected one.
-pub(crate) fn is_equal<T: PartialEq + Debug + Drop>(
+// Checks that the value is the one wanted.
+pub(crate) fn is_equal<T: Debug + PartialEq>(
     rt: &impl Abort,
-    outcome: T,
-    wanted: T,
+    value: &T,
+    wanted: &T,
     row: &impl Debug,
 ) {
-    assert_eq!(rt; outcome, wanted, "at {row:?}");
+    assert_eq!(rt; value, wanted, "at {row:?}");
 }
 
-// Asserts a condition of the row.
-pub(crate) fn holds(rt: &impl Abort, is_so: bool, row: &impl Debug) {
-    assert!(rt; is_so, "at {row:?}");
-}
-
-// Asserts that the outcome is the expected string or error.
-pub(crate) fn is_text<E: Copy + PartialEq + Debug + Drop>(
-    rt: &impl Abort,
-    outcome: &Result<String, E>,
-    wanted: Result<&str, E>,
-    row: &impl Debug,
-) {
-    match outcome {
-        Ok(text) => is_equal(rt, Ok(text.as_str()), wanted, row),
-        Err(fault) => is_equal(rt, Err(*fault), wanted, row),
+// Checks that the string is the one wanted. The message has the lengths of long ones only.
+pub(crate) fn is_text(rt: &impl Abort, text: &str, wanted: &str, row: &impl Debug) {
+    if text.len() < 1_000 {
+        is_equal(rt, &text, &wanted, row);
+    } else {
+        let same = (text.len(), text == wanted);
+        is_equal(rt, &same, &(wanted.len(), true), row);
     }
 }
 
-// Asserts what the value prints, alone and with a width and an alignment.
-pub(crate) fn is_written_at_any_width(
-    rt: &impl Abort,
-    alloc: Global,
-    value: &impl Display,
-    wanted: &str,
-) {
-    is_text(rt, &value.to_string(alloc), Ok(wanted), &wanted);
-    let wide = format!(in alloc; "{value:>200}");
-    is_text(rt, &wide, Ok(wanted), &wanted);
+// Checks what the value prints, alone and with a width and an alignment.
+pub(crate) fn is_printed(rt: &impl Abort, alloc: Global, value: &impl Display, wanted: &str) {
+    let text = value.to_string(alloc).expect(rt, "memory");
+    is_text(rt, text.as_str(), wanted, &"no width");
+    let wide = format!(in alloc; "{value:>200}").expect(rt, "memory");
+    is_text(rt, wide.as_str(), wanted, &"a width");
 }
 
 fn hash_of<T: Hash>(value: &T) -> u64 {
@@ -51,30 +39,14 @@ fn hash_of<T: Hash>(value: &T) -> u64 {
     state.finish()
 }
 
-// Asserts how the first compares with the second, and that equal values have equal hashes.
-pub(crate) fn are_ordered<T: Ord + Hash + Debug>(
+// Checks that the copy is the value, also in its order and its hash.
+pub(crate) fn is_copy<T: Ord + Hash + Debug>(
     rt: &impl Abort,
-    first: &T,
-    second: &T,
-    wanted: Ordering,
+    copy: &T,
+    value: &T,
+    row: &impl Debug,
 ) {
-    let orders = (
-        first.cmp(second),
-        second.cmp(first),
-        first.partial_cmp(second),
-    );
-    let wanted_orders = (wanted, wanted.reverse(), Some(wanted));
-    is_equal(rt, orders, wanted_orders, &(first, second));
-    let is_same = wanted == Ordering::Equal;
-    let is_hashed_so = !is_same || hash_of(first) == hash_of(second);
-    holds(
-        rt,
-        (first == second) == is_same && is_hashed_so,
-        &(first, second),
-    );
-}
-
-// Copies the string.
-pub(crate) fn owned(rt: &impl Abort, alloc: Global, text: &str) -> String {
-    String::from_str(alloc, text).expect(rt, "memory")
+    is_equal(rt, copy, value, row);
+    let results = (copy.cmp(value), hash_of(copy) == hash_of(value));
+    is_equal(rt, &results, &(Ordering::Equal, true), row);
 }

@@ -1,352 +1,276 @@
-//! Cookies of header values, and what they return.
-use crate::checks::{holds, is_equal, is_text, owned};
-use crate::parts::{Hosts, cookie_from, is_for, moment};
-use cookie_parts::{Cookie, CookieError};
-use cookie_raw::{RawCookie, SameSite};
-use jiff::civil::DateTime;
+//! Cookies of header values and of saved forms.
+use crate::checks::{is_equal, is_text};
+use crate::parts::{NOW, moment, url};
+use cookie_parts::{Cookie, CookieError, CookieResult};
+use cookie_raw::RawCookie;
+use cookie_saved::{from_text, to_text};
 use std::alloc::Global;
+use std::fmt::Debug;
 use std::process::Abort;
 use url::Url;
 
-// What is expected of a header value: the domain and path of its cookie, or the error.
-type Expected = Result<(Hosts, &'static str), CookieError>;
+// A call that returns the cookie of a header value.
+#[derive(Clone, Copy, Debug)]
+pub(crate) enum Call {
+    Parse,
+    ParseOwned,
+    TryFromRaw,
+}
 
-// A header value, the URL that it is received from, and the expected result.
-const COOKIES: &[(&str, &str, Expected)] = &[
-    (
-        "a=1; Domain=example.com",
-        "http://foo.example.com",
-        Ok((Hosts::Suffix("example.com"), "/")),
-    ),
-    (
-        "a=1; Domain=.example.com",
-        "http://foo.example.com",
-        Ok((Hosts::Suffix("example.com"), "/")),
-    ),
-    (
-        "a=1; Domain=foo.example.com",
-        "http://foo.example.com",
-        Ok((Hosts::Suffix("foo.example.com"), "/")),
-    ),
-    (
-        "a=1; Domain=.foo.example.com",
-        "http://foo.example.com",
-        Ok((Hosts::Suffix("foo.example.com"), "/")),
-    ),
-    (
-        "a=1; Domain=oo.example.com",
-        "http://foo.example.com",
-        Err(CookieError::DomainMismatch),
-    ),
-    (
-        "a=1; Domain=myexample.com",
-        "http://foo.example.com",
-        Err(CookieError::DomainMismatch),
-    ),
-    (
-        "a=1; Domain=bar.example.com",
-        "http://foo.example.com",
-        Err(CookieError::DomainMismatch),
-    ),
-    (
-        "a=1; Domain=baz.foo.example.com",
-        "http://foo.example.com",
-        Err(CookieError::DomainMismatch),
-    ),
-    (
-        "k=1; Domain=a.b",
-        "foo://x.A.B/",
-        Err(CookieError::DomainMismatch),
-    ),
-    (
-        "a=1; Domain=0.0.1",
-        "http://127.0.0.1/",
-        Err(CookieError::DomainMismatch),
-    ),
-    (
-        "a=1; Domain=..",
-        "http://a.com/",
-        Err(CookieError::DomainMismatch),
-    ),
-    (
-        "a=1; Domain=127.0.0.1",
-        "http://127.0.0.1/",
-        Ok((Hosts::Suffix("127.0.0.1"), "/")),
-    ),
-    (
-        "a=1; Domain=EXAMPLE.com",
-        "http://example.com",
-        Ok((Hosts::Suffix("example.com"), "/")),
-    ),
-    (
-        "a=1",
-        "http://foo.example.com",
-        Ok((Hosts::HostOnly("foo.example.com"), "/")),
-    ),
-    (
-        "a=1; Path=",
-        "http://example.com/foo/bar/",
-        Ok((Hosts::HostOnly("example.com"), "/foo/bar")),
-    ),
-    (
-        "a=1; Path=baz",
-        "http://example.com/foo/bar/",
-        Ok((Hosts::HostOnly("example.com"), "/foo/bar")),
-    ),
-    (
-        "a=1; Path=/baz",
-        "http://example.com/foo/bar/",
-        Ok((Hosts::HostOnly("example.com"), "/baz")),
-    ),
-    ("a", "http://example.com", Err(CookieError::Parse)),
-    (
-        "a=1; Domain=xn--a.example",
-        "http://foo.example.com",
-        Err(CookieError::Parse),
-    ),
-    ("a=1", "data:x", Err(CookieError::NonRelativeScheme)),
-    (
-        "a=1; HttpOnly",
-        "ftp://example.com/",
-        Err(CookieError::NonHttpScheme),
-    ),
-];
-
-// Asserts that the result is what the row expects.
-fn is_expected(
+// The result of the call at `NOW`.
+pub(crate) fn cookie_by<'a>(
     rt: &impl Abort,
-    parsed: &Result<Cookie<'_>, CookieError>,
-    row: &(&str, &str, Expected),
-) {
-    match (parsed, &row.2) {
-        (Ok(cookie), Ok((hosts, path))) => {
-            holds(rt, is_for(&cookie.domain, hosts), row);
-            is_equal(rt, cookie.path.as_str(), *path, row);
+    alloc: Global,
+    call: Call,
+    text: &'a str,
+    url: &Url,
+) -> CookieResult<'a> {
+    let now = moment(rt, NOW);
+    match call {
+        Call::Parse => Cookie::parse(alloc, text, url, now),
+        Call::ParseOwned => Cookie::parse_owned(alloc, text, url, now),
+        Call::TryFromRaw => {
+            let raw = RawCookie::parse(text).expect(rt, "a cookie");
+            Cookie::try_from_raw_cookie(alloc, &raw, url, now)
         }
-        (parsed, wanted) => is_equal(rt, parsed.as_ref().err(), wanted.as_ref().err(), row),
     }
 }
 
-// Asserts that the row's header value gives the expected result at `now`.
-fn makes(rt: &impl Abort, alloc: Global, row: &(&str, &str, Expected), now: DateTime) {
-    let url = Url::parse(alloc, row.1).expect(rt, "a URL");
-    is_expected(rt, &Cookie::parse(alloc, row.0, &url, now), row);
+// A copy of the cookie by way of its saved form.
+fn copied(rt: &impl Abort, alloc: Global, cookie: &Cookie<'_>) -> Cookie<'static> {
+    let copy = cookie.clone().expect(rt, "memory");
+    let owned = copy.into_owned(alloc).expect(rt, "memory");
+    let saved = owned.to_saved(alloc).expect(rt, "memory");
+    Cookie::from_saved(alloc, saved).expect(rt, "memory")
+}
+
+// Checks the saved form of the cookie.
+fn is_saved_as(
+    rt: &impl Abort,
+    alloc: Global,
+    cookie: &Cookie<'_>,
+    wanted: &str,
+    row: &impl Debug,
+) {
+    let saved = cookie.to_saved(alloc).expect(rt, "memory");
+    let text = to_text(alloc, &saved).expect(rt, "memory");
+    is_text(rt, text.as_str(), wanted, row);
+}
+
+// Checks the saved form of the cookie and of its copy.
+pub(crate) fn is_cookie(
+    rt: &impl Abort,
+    alloc: Global,
+    cookie: &Cookie<'_>,
+    wanted: &str,
+    row: &impl Debug,
+) {
+    is_saved_as(rt, alloc, cookie, wanted, row);
+    let copy = copied(rt, alloc, cookie);
+    is_saved_as(rt, alloc, &copy, wanted, row);
+}
+
+// A call, a URL, a header value received from it, and the saved form of its cookie.
+static RECEIVED: [(Call, &str, &str, &str); 15] = [
+    (
+        Call::Parse,
+        "http://foo.example.com",
+        "a=1; Domain=example.com",
+        r#"{"domain":{"Suffix":"example.com"},"expires":"SessionEnd","path":["/",false],"raw_cookie":"a=1; Domain=example.com"}"#,
+    ),
+    (
+        Call::ParseOwned,
+        "http://foo.example.com",
+        "a=1; Domain=.foo.example.com",
+        r#"{"domain":{"Suffix":"foo.example.com"},"expires":"SessionEnd","path":["/",false],"raw_cookie":"a=1; Domain=foo.example.com"}"#,
+    ),
+    (
+        Call::TryFromRaw,
+        "http://127.0.0.1/",
+        "a=1; Domain=127.0.0.1",
+        r#"{"domain":{"Suffix":"127.0.0.1"},"expires":"SessionEnd","path":["/",false],"raw_cookie":"a=1; Domain=127.0.0.1"}"#,
+    ),
+    (
+        Call::Parse,
+        "http://example.com",
+        "a=1; Domain=EXAMPLE.com",
+        r#"{"domain":{"Suffix":"example.com"},"expires":"SessionEnd","path":["/",false],"raw_cookie":"a=1; Domain=EXAMPLE.com"}"#,
+    ),
+    (
+        Call::Parse,
+        "http://foo.example.com",
+        "a=1",
+        r#"{"domain":{"HostOnly":"foo.example.com"},"expires":"SessionEnd","path":["/",false],"raw_cookie":"a=1"}"#,
+    ),
+    (
+        Call::Parse,
+        "http://example.com/foo/bar/",
+        "a=1; Path=",
+        r#"{"domain":{"HostOnly":"example.com"},"expires":"SessionEnd","path":["/foo/bar",false],"raw_cookie":"a=1; Path="}"#,
+    ),
+    (
+        Call::ParseOwned,
+        "http://example.com/foo/bar/",
+        "a=1; Path=baz",
+        r#"{"domain":{"HostOnly":"example.com"},"expires":"SessionEnd","path":["/foo/bar",false],"raw_cookie":"a=1; Path=baz"}"#,
+    ),
+    (
+        Call::TryFromRaw,
+        "http://example.com/foo/bar/",
+        "a=1; Path=/baz",
+        r#"{"domain":{"HostOnly":"example.com"},"expires":"SessionEnd","path":["/baz",true],"raw_cookie":"a=1; Path=/baz"}"#,
+    ),
+    (
+        Call::Parse,
+        "http://foo.example.com/foo/bar",
+        "cookie2=value2; Domain=example.com",
+        r#"{"domain":{"Suffix":"example.com"},"expires":"SessionEnd","path":["/foo",false],"raw_cookie":"cookie2=value2; Domain=example.com"}"#,
+    ),
+    (
+        Call::Parse,
+        "http://foo.example.com/foo",
+        "cookie3=value3; Path=/foo/bar",
+        r#"{"domain":{"HostOnly":"foo.example.com"},"expires":"SessionEnd","path":["/foo/bar",true],"raw_cookie":"cookie3=value3; Path=/foo/bar"}"#,
+    ),
+    (
+        Call::ParseOwned,
+        "http://example.com/",
+        "a=1; Expires=Tue, 03 Aug 2100 00:38:37 GMT; Secure",
+        r#"{"domain":{"HostOnly":"example.com"},"expires":{"AtUtc":"2100-08-03T00:38:37Z"},"path":["/",false],"raw_cookie":"a=1; Secure; Expires=Tue, 03 Aug 2100 00:38:37 GMT"}"#,
+    ),
+    // Max-Age takes precedence over Expires.
+    (
+        Call::TryFromRaw,
+        "http://[::1]/x/y",
+        "a=1; Expires=Wed, 31 Dec 2025 00:00:00 GMT; Max-Age=60",
+        r#"{"domain":{"HostOnly":"[::1]"},"expires":{"AtUtc":"2026-01-01T00:01:00Z"},"path":["/x",false],"raw_cookie":"a=1; Max-Age=60; Expires=Wed, 31 Dec 2025 00:00:00 GMT"}"#,
+    ),
+    (
+        Call::Parse,
+        "http://example.com/",
+        "a=1; Max-Age=9223372036854775808",
+        r#"{"domain":{"HostOnly":"example.com"},"expires":{"AtUtc":"9999-12-31T23:59:59Z"},"path":["/",false],"raw_cookie":"a=1; Max-Age=9223372036854775807"}"#,
+    ),
+    (
+        Call::Parse,
+        "http://example.com/",
+        "a=1; Max-Age=-1",
+        r#"{"domain":{"HostOnly":"example.com"},"expires":{"AtUtc":"1970-01-01T00:00:00Z"},"path":["/",false],"raw_cookie":"a=1; Max-Age=0"}"#,
+    ),
+    (
+        Call::Parse,
+        "http://example.com/",
+        "a=1; Max-Age=1x",
+        r#"{"domain":{"HostOnly":"example.com"},"expires":"SessionEnd","path":["/",false],"raw_cookie":"a=1"}"#,
+    ),
+];
+
+fn is_received(rt: &impl Abort, alloc: Global, row: &(Call, &str, &str, &str)) {
+    let url = url(rt, alloc, row.1);
+    let cookie = cookie_by(rt, alloc, row.0, row.2, &url).expect(rt, "memory");
+    is_cookie(rt, alloc, &cookie, row.3, row);
 }
 
 #[test]
 fn header_values_are_parsed(rt: HostRuntime) {
-    for row in COOKIES {
-        makes(&rt, rt.alloc(), row, DateTime::MIN);
-        makes(&rt, rt.alloc(), row, DateTime::MAX);
+    for row in &RECEIVED {
+        is_received(&rt, rt.alloc(), row);
     }
 }
 
-// A header value, the URL that it is received from, another URL, and whether the cookie matches
-// that.
-const FLAGS: &[(&str, &str, &str, bool)] = &[
+// A call, a URL, a header value received from it, and the error.
+static REJECTED: [(Call, &str, &str, CookieError); 11] = [
     (
-        "a=1; Secure",
-        "http://example.com",
-        "https://example.com",
-        true,
+        Call::Parse,
+        "http://foo.example.com",
+        "a=1; Domain=oo.example.com",
+        CookieError::DomainMismatch,
     ),
     (
-        "a=1; Secure",
-        "http://example.com",
-        "http://example.com",
-        false,
+        Call::ParseOwned,
+        "http://foo.example.com",
+        "a=1; Domain=bar.example.com",
+        CookieError::DomainMismatch,
     ),
     (
+        Call::TryFromRaw,
+        "http://foo.example.com",
+        "a=1; Domain=baz.foo.example.com",
+        CookieError::DomainMismatch,
+    ),
+    (
+        Call::Parse,
+        "foo://x.A.B/",
+        "k=1; Domain=a.b",
+        CookieError::DomainMismatch,
+    ),
+    (
+        Call::Parse,
+        "http://127.0.0.1/",
+        "a=1; Domain=0.0.1",
+        CookieError::DomainMismatch,
+    ),
+    (
+        Call::Parse,
+        "http://a.com/",
+        "a=1; Domain=..",
+        CookieError::DomainMismatch,
+    ),
+    (Call::Parse, "http://example.com", "a", CookieError::Parse),
+    (
+        Call::ParseOwned,
+        "http://foo.example.com",
+        "a=1; Domain=xn--a.example",
+        CookieError::Parse,
+    ),
+    (Call::Parse, "data:x", "a=1", CookieError::NonRelativeScheme),
+    (
+        Call::TryFromRaw,
+        "ftp://example.com/",
         "a=1; HttpOnly",
-        "http://example.com",
-        "http://example.com",
-        true,
+        CookieError::NonHttpScheme,
     ),
     (
+        Call::ParseOwned,
+        "ftp://example.com/",
         "a=1; HttpOnly",
-        "http://example.com",
-        "HTTP://example.com",
-        true,
-    ),
-    (
-        "a=1; HttpOnly",
-        "http://example.com",
-        "https://example.com",
-        true,
-    ),
-    (
-        "a=1; HttpOnly",
-        "http://example.com",
-        "ftp://example.com",
-        false,
-    ),
-    ("a=1; HttpOnly", "http://example.com", "data:x", false),
-    // The local machine counts as secure.
-    ("a=1; Secure", "http://localhost", "http://localhost", true),
-    (
-        "a=1; Secure",
-        "http://localhost:1234",
-        "http://localhost:1234",
-        true,
-    ),
-    ("a=1; Secure", "http://127.0.0.1", "http://127.0.0.1", true),
-    ("a=1; Secure", "http://127.0.0.2", "http://127.0.0.2", true),
-    ("a=1; Secure", "http://127.1.0.1", "http://127.1.0.1", true),
-    ("a=1; Secure", "http://[::1]", "http://[::1]", true),
-    ("a=1; Secure", "http://128.0.0.1", "http://128.0.0.1", false),
-    (
-        "a=1; Secure",
-        "http://localhost.com",
-        "http://localhost.com",
-        false,
+        CookieError::NonHttpScheme,
     ),
 ];
 
-fn matches_as_expected(rt: &impl Abort, alloc: Global, row: &(&str, &str, &str, bool)) -> bool {
-    let (text, from, at, wanted) = *row;
-    let at = Url::parse(alloc, at).expect(rt, "a URL");
-    cookie_from(rt, alloc, text, from, DateTime::ZERO).matches(&at) == wanted
+fn is_rejected(rt: &impl Abort, alloc: Global, row: &(Call, &str, &str, CookieError)) {
+    let url = url(rt, alloc, row.1);
+    let error = cookie_by(rt, alloc, row.0, row.2, &url).err();
+    is_equal(rt, &error, &Some(row.3), row);
 }
 
 #[test]
-fn a_cookie_requires_a_scheme(rt: HostRuntime) {
-    for row in FLAGS {
-        holds(&rt, matches_as_expected(&rt, rt.alloc(), row), row);
+fn header_values_are_rejected(rt: HostRuntime) {
+    for row in &REJECTED {
+        is_rejected(&rt, rt.alloc(), row);
     }
 }
 
-const TEXT: &str = "a=1; Path=/x; Domain=a.com; Secure; HttpOnly; Max-Age=5";
-
-const NOW: &str = "2026-01-01T00:00:00";
-
-// The cookie of a header value received from http://a.com/ at `NOW`.
-fn cookie<'a>(rt: &impl Abort, alloc: Global, text: &'a str) -> Cookie<'a> {
-    cookie_from(rt, alloc, text, "http://a.com/", moment(rt, NOW))
-}
-
-// Asserts what the cookie of the header value is as a raw cookie.
-fn says(rt: &impl Abort, alloc: Global, text: &str, wanted: &str) {
-    let raw = cookie(rt, alloc, text).into_raw(alloc).expect(rt, "memory");
-    is_text(rt, &raw.to_text(alloc), Ok(wanted), &text);
-}
-
-#[test]
-fn a_cookie_converts_to_its_raw_cookie(rt: HostRuntime) {
-    let wanted = "a=1; Path=/x; Domain=a.com; Expires=Thu, 01 Jan 2026 00:00:05 GMT";
-    says(&rt, rt.alloc(), TEXT, wanted)
-}
-
-// A header value, and whether its cookie is persistent. Some parts are empty.
-const TEXTS: &[(&str, bool)] = &[
-    (TEXT, true),
-    ("a=1", false),
-    ("a=", false),
-    ("a=1; Path=", false),
-    ("a=; Path=; Domain=", false),
+// Saved forms, whose cookies have the saved path, whatever the Path attribute is.
+static SAVED: [&str; 7] = [
+    r#"{"domain":{"HostOnly":"example.com"},"expires":"SessionEnd","path":["/p",true],"raw_cookie":"a=1; Path=/p"}"#,
+    r#"{"domain":{"Suffix":"example.com"},"expires":{"AtUtc":"0000-01-01T00:00:00Z"},"path":["/p",true],"raw_cookie":"a=1; Path=/p"}"#,
+    r#"{"domain":"NotPresent","expires":{"AtUtc":"9999-12-31T23:59:59Z"},"path":["/p",true],"raw_cookie":"a=1; Path=/p"}"#,
+    r#"{"domain":"Empty","expires":{"AtUtc":"1970-01-01T00:00:00Z"},"path":["/x",true],"raw_cookie":"a=1; Path=/p"}"#,
+    r#"{"domain":"Empty","expires":"SessionEnd","path":["/x",false],"raw_cookie":"a=1; Path=/p"}"#,
+    r#"{"domain":"Empty","expires":"SessionEnd","path":["x/y",true],"raw_cookie":"a=1; Path=/p"}"#,
+    r#"{"domain":"Empty","expires":"SessionEnd","path":["",false],"raw_cookie":"a=1; Path=/p"}"#,
 ];
 
-// Whether the cookie is expired once `expire` is called, and not before.
-fn can_be_expired(cookie: &mut Cookie<'_>, now: DateTime, early: DateTime) -> bool {
-    let is_early = cookie.is_expired(now);
-    cookie.expire();
-    let is_late = cookie.is_expired(now) && cookie.is_expired(early);
-    !is_early && is_late && cookie.expires_by(&early)
-}
-
-// Asserts that the cookie is persistent or not, and can be expired.
-fn ends(rt: &impl Abort, alloc: Global, row: &(&str, bool)) {
-    let early = moment(rt, "1970-01-02T00:00:00");
-    let mut cookie = cookie(rt, alloc, row.0);
-    is_equal(rt, cookie.is_persistent(), row.1, row);
-    holds(rt, can_be_expired(&mut cookie, moment(rt, NOW), early), row);
-}
-
-fn is_equal_to_copy(rt: &impl Abort, cookie: &Cookie<'_>) -> bool {
-    let copy = cookie.clone().expect(rt, "memory");
-    copy == *cookie
-}
-
-// Whether the cookie equals the one of the header value.
-fn is_of_text(rt: &impl Abort, alloc: Global, parsed: &Cookie<'_>, text: &str) -> bool {
-    let cookie = cookie(rt, alloc, text);
-    cookie == *parsed
-}
-
-// Asserts that the cookie equals its copy and the cookie of `text`, but not that of `a=2`.
-fn is_same(rt: &impl Abort, alloc: Global, parsed: &Cookie<'_>, text: &str) {
-    holds(rt, is_equal_to_copy(rt, parsed), &text);
-    holds(rt, is_of_text(rt, alloc, parsed, text), &text);
-    holds(rt, !is_of_text(rt, alloc, parsed, "a=2"), &text);
-}
-
-// Asserts that the owned cookie is the same.
-fn is_owned(rt: &impl Abort, alloc: Global, text: &str) {
-    let owned = cookie(rt, alloc, text).into_owned(alloc);
-    is_same(rt, alloc, &owned.expect(rt, "memory"), text);
-}
-
-// Whether a cookie is Secure, whether it is HttpOnly, and its SameSite attribute.
-type Attributes = (bool, bool, Option<SameSite>);
-
-// A header value, and the attributes of its cookie, or the error.
-const ATTRIBUTES: &[(&str, Result<Attributes, CookieError>)] = &[
-    (TEXT, Ok((true, true, None))),
-    ("a=1", Ok((false, false, None))),
-    (
-        "a=1; Secure; SameSite=None",
-        Ok((true, false, Some(SameSite::None))),
-    ),
-    (
-        "a=1; HttpOnly; SameSite=lax",
-        Ok((false, true, Some(SameSite::Lax))),
-    ),
-    ("a", Err(CookieError::Parse)),
-    ("a=1; Domain=b.com", Err(CookieError::DomainMismatch)),
-];
-
-// The attributes of the cookie of a header value, which is dropped before.
-fn attributes(
-    rt: &impl Abort,
-    alloc: Global,
-    text: &str,
-    now: DateTime,
-) -> Result<Attributes, CookieError> {
-    let url = Url::parse(alloc, "http://a.com/").expect(rt, "a URL");
-    let header_value = owned(rt, alloc, text);
-    let cookie = Cookie::parse_owned(alloc, header_value.as_str(), &url, now)?;
-    drop(header_value);
-    Ok((
-        cookie.is_secure(),
-        cookie.is_http_only(),
-        cookie.same_site(),
-    ))
+fn is_loaded(rt: &impl Abort, alloc: Global, text: &str) {
+    let saved = from_text(alloc, text).expect(rt, "memory");
+    let cookie = Cookie::from_saved(alloc, saved).expect(rt, "memory");
+    is_cookie(rt, alloc, &cookie, text, &text);
 }
 
 #[test]
-fn owned_cookies_have_their_attributes(rt: HostRuntime) {
-    for row in ATTRIBUTES {
-        let result = attributes(&rt, rt.alloc(), row.0, DateTime::MIN);
-        is_equal(&rt, result, row.1, row);
-    }
-}
-
-// The cookie of a raw cookie received from http://a.com/ at `NOW`.
-fn raw_cookie<'a>(rt: &impl Abort, alloc: Global, raw: &RawCookie<'a>) -> Cookie<'a> {
-    let url = Url::parse(alloc, "http://a.com/").expect(rt, "a URL");
-    Cookie::try_from_raw_cookie(alloc, raw, &url, moment(rt, NOW)).expect(rt, "memory")
-}
-
-// Asserts that the cookie of the raw cookie is the same.
-fn is_same_from_raw(rt: &impl Abort, alloc: Global, text: &str) {
-    let raw = RawCookie::parse(text).expect(rt, "a cookie");
-    is_same(rt, alloc, &raw_cookie(rt, alloc, &raw), text);
-}
-
-#[test]
-fn cookies_are_copied_and_expired(rt: HostRuntime) {
-    for row in TEXTS {
-        is_owned(&rt, rt.alloc(), row.0);
-        is_same_from_raw(&rt, rt.alloc(), row.0);
-        ends(&rt, rt.alloc(), row);
+fn saved_forms_are_converted(rt: HostRuntime) {
+    for text in &SAVED {
+        is_loaded(&rt, rt.alloc(), text);
     }
 }

@@ -1,116 +1,109 @@
 //! Domains, and the hosts that they cover.
-use crate::checks::{are_ordered, is_equal};
-use crate::domain::Origin::{Host, Parts, Raw, Text};
-use crate::parts::{Hosts, domain_of, is_for};
+use crate::checks::{is_copy, is_equal};
+use crate::parts::{owned, url};
 use cookie_parts::cookie_domain::is_match;
-use cookie_parts::utils::{is_host_name, parse_url};
+use cookie_parts::utils::is_host_name;
 use cookie_parts::{CookieDomain, CookieError, Error};
 use cookie_psl::List;
 use cookie_raw::RawCookie;
 use std::alloc::Global;
-use std::cmp::Ordering;
 use std::process::Abort;
 use url::Url;
 
-// What a domain is built from: a string, a raw cookie's header value, a URL (host-only), or its
-// variant.
-#[derive(Debug)]
-enum Origin {
-    Text(&'static str),
-    Raw(&'static str),
-    Host(&'static str),
-    Parts(Hosts),
+// What a domain is built from: a string, a raw cookie's header value, the host of a URL, or the string
+// of its variant.
+#[derive(Clone, Copy, Debug)]
+pub(crate) enum Origin<'a> {
+    Text(&'a str),
+    Raw(&'a str),
+    Host(&'a str),
+    HostOnly(&'a str),
+    Suffix(&'a str),
+    NotPresent,
+    Empty,
 }
 
-fn domain_of_raw(rt: &impl Abort, alloc: Global, text: &str) -> Result<CookieDomain, Error> {
-    let raw = RawCookie::parse(text).expect(rt, "a cookie");
-    CookieDomain::try_from_raw(alloc, &raw)
-}
-
-fn domain_of_host(rt: &impl Abort, alloc: Global, at: &str) -> Result<CookieDomain, Error> {
-    let url = Url::parse(alloc, at).expect(rt, "a URL");
-    CookieDomain::host_only(alloc, &url).map_err(Error::from)
-}
-
-fn built(rt: &impl Abort, alloc: Global, origin: &Origin) -> Result<CookieDomain, Error> {
+pub(crate) fn built(
+    rt: &impl Abort,
+    alloc: Global,
+    origin: &Origin<'_>,
+) -> Result<CookieDomain, Error> {
     match origin {
-        Text(text) => CookieDomain::try_from_str(alloc, text),
-        Raw(text) => domain_of_raw(rt, alloc, text),
-        Host(at) => domain_of_host(rt, alloc, at),
-        Parts(hosts) => Ok(domain_of(rt, alloc, hosts)),
+        Origin::Text(text) => CookieDomain::try_from_str(alloc, text),
+        Origin::Raw(text) => {
+            let raw = RawCookie::parse(text).expect(rt, "a cookie");
+            CookieDomain::try_from_raw(alloc, &raw)
+        }
+        Origin::Host(at) => {
+            let url = url(rt, alloc, at);
+            CookieDomain::host_only(alloc, &url).map_err(Error::from)
+        }
+        Origin::HostOnly(host) => Ok(CookieDomain::HostOnly(owned(rt, alloc, host))),
+        Origin::Suffix(host) => Ok(CookieDomain::Suffix(owned(rt, alloc, host))),
+        Origin::NotPresent => Ok(CookieDomain::NotPresent),
+        Origin::Empty => Ok(CookieDomain::Empty),
     }
 }
 
-// An origin, the expected domain, and its string.
-const DOMAINS: &[(Origin, Hosts, &str)] = &[
-    (Text(""), Hosts::Empty, ""),
-    (Text("."), Hosts::Empty, ""),
-    (Text(".."), Hosts::Suffix("."), "."),
-    (
-        Text("example.com"),
-        Hosts::Suffix("example.com"),
-        "example.com",
-    ),
-    (
-        Text(".example.com"),
-        Hosts::Suffix("example.com"),
-        "example.com",
-    ),
-    (
-        Text("..example.com"),
-        Hosts::Suffix(".example.com"),
-        ".example.com",
-    ),
-    (
-        Text("bücher.example"),
-        Hosts::Suffix("xn--bcher-kva.example"),
-        "xn--bcher-kva.example",
-    ),
-    (Raw("cookie=value"), Hosts::NotPresent, ""),
-    (Raw("cookie=value; Domain="), Hosts::NotPresent, ""),
-    (Raw("cookie=value; Domain=."), Hosts::Empty, ""),
-    (
-        Raw("cookie=value; Domain=.example.com"),
-        Hosts::Suffix("example.com"),
-        "example.com",
-    ),
-    (
-        Parts(Hosts::HostOnly("a.example")),
-        Hosts::HostOnly("a.example"),
-        "a.example",
-    ),
-    (
-        Parts(Hosts::Suffix("example")),
-        Hosts::Suffix("example"),
-        "example",
-    ),
-    (Parts(Hosts::NotPresent), Hosts::NotPresent, ""),
-    (Parts(Hosts::Empty), Hosts::Empty, ""),
-];
+// An expected domain: its variant and its string.
+type Parts<'a> = (&'static str, &'a str);
 
-// Asserts that the domain and its copy are the expected one, and its string.
-fn names(rt: &impl Abort, alloc: Global, row: &(Origin, Hosts, &str)) {
-    let (origin, hosts, wanted) = row;
-    let domain = built(rt, alloc, origin).expect(rt, "memory");
-    let copy = domain.clone().expect(rt, "memory");
-    let text = domain.to_string_in(alloc).expect(rt, "memory");
-    let results = (is_for(&domain, hosts), is_for(&copy, hosts), text.as_str());
-    is_equal(rt, results, (true, true, *wanted), row);
+fn parts_of(domain: &CookieDomain) -> Parts<'_> {
+    match domain {
+        CookieDomain::HostOnly(host) => ("HostOnly", host.as_str()),
+        CookieDomain::Suffix(host) => ("Suffix", host.as_str()),
+        CookieDomain::NotPresent => ("NotPresent", ""),
+        CookieDomain::Empty => ("Empty", ""),
+    }
 }
+
+// Checks the domain, a copy of it and its string.
+pub(crate) fn is_domain(rt: &impl Abort, alloc: Global, origin: &Origin<'_>, wanted: Parts<'_>) {
+    let domain = built(rt, alloc, origin).expect(rt, "memory");
+    is_equal(rt, &parts_of(&domain), &wanted, origin);
+    let copy = domain.clone().expect(rt, "memory");
+    is_copy(rt, &copy, &domain, origin);
+    let text = copy.to_string_in(alloc).expect(rt, "memory");
+    is_equal(rt, &text.as_str(), &wanted.1, origin);
+}
+
+static DOMAINS: [(Origin<'static>, Parts<'static>); 15] = [
+    (Origin::Text(""), ("Empty", "")),
+    (Origin::Text("."), ("Empty", "")),
+    (Origin::Text(".."), ("Suffix", ".")),
+    (Origin::Text("example.com"), ("Suffix", "example.com")),
+    (Origin::Text(".example.com"), ("Suffix", "example.com")),
+    (Origin::Text("..example.com"), ("Suffix", ".example.com")),
+    (
+        Origin::Text("bücher.example"),
+        ("Suffix", "xn--bcher-kva.example"),
+    ),
+    (Origin::Raw("cookie=value"), ("NotPresent", "")),
+    (Origin::Raw("cookie=value; Domain="), ("NotPresent", "")),
+    (Origin::Raw("cookie=value; Domain=."), ("Empty", "")),
+    (
+        Origin::Raw("cookie=value; Domain=.example.com"),
+        ("Suffix", "example.com"),
+    ),
+    (Origin::Host("http://a.example/"), ("HostOnly", "a.example")),
+    (Origin::Suffix("example"), ("Suffix", "example")),
+    (Origin::NotPresent, ("NotPresent", "")),
+    (Origin::Empty, ("Empty", "")),
+];
 
 #[test]
 fn a_domain_is_for_hosts(rt: HostRuntime) {
-    for row in DOMAINS {
-        names(&rt, rt.alloc(), row);
+    for (origin, wanted) in &DOMAINS {
+        is_domain(&rt, rt.alloc(), origin, *wanted);
     }
 }
 
 // Origins that are not valid, and the error; `None` is an error of `idna`.
-const NO_DOMAINS: &[(Origin, Option<CookieError>)] = &[
-    (Text("xn--a"), None),
-    (Text("xn--a.example"), None),
-    (Raw("a=1; Domain=xn--a.example"), None),
-    (Host("data:x"), Some(CookieError::NonRelativeScheme)),
+static NO_DOMAINS: [(Origin<'static>, Option<CookieError>); 4] = [
+    (Origin::Text("xn--a"), None),
+    (Origin::Text("xn--a.example"), None),
+    (Origin::Raw("a=1; Domain=xn--a.example"), None),
+    (Origin::Host("data:x"), Some(CookieError::NonRelativeScheme)),
 ];
 
 // The error about a cookie, or that of `idna`.
@@ -123,95 +116,95 @@ fn fault_of(error: Option<CookieError>) -> Error {
 
 #[test]
 fn invalid_domain_names_are_rejected(rt: HostRuntime) {
-    for (origin, error) in NO_DOMAINS {
+    for (origin, error) in &NO_DOMAINS {
         let fault = built(&rt, rt.alloc(), origin).err();
-        is_equal(&rt, fault, Some(fault_of(*error)), origin);
+        is_equal(&rt, &fault, &Some(fault_of(*error)), origin);
     }
 }
 
 // A domain, a URL, and whether the domain matches the URL's host.
-const COVERS: &[(Origin, &str, bool)] = &[
-    (Text("0.0.1"), "http://127.0.0.1", false),
-    (Text("127.0.0.1"), "http://127.0.0.1", true),
-    (Text("example.com"), "http://foo.example.com", true),
-    (Text("example.com"), "http://fooexample.com", false),
-    (Text("example.com"), "http://xample.com", false),
-    (Text("example.com"), "http://example.org", false),
-    (Text("..example.com"), "http://foo..example.com", true),
-    (Text("..example.com"), "http://foo.example.com", false),
+static COVERS: [(Origin<'static>, &str, bool); 27] = [
+    (Origin::Text("0.0.1"), "http://127.0.0.1", false),
+    (Origin::Text("127.0.0.1"), "http://127.0.0.1", true),
+    (Origin::Text("example.com"), "http://foo.example.com", true),
+    (Origin::Text("example.com"), "http://fooexample.com", false),
+    (Origin::Text("example.com"), "http://xample.com", false),
+    (Origin::Text("example.com"), "http://example.org", false),
     (
-        Parts(Hosts::Suffix("example.com")),
-        "http://example.org",
-        false,
+        Origin::Text("..example.com"),
+        "http://foo..example.com",
+        true,
     ),
     (
-        Parts(Hosts::Suffix("example.com")),
-        "http://xample.com",
+        Origin::Text("..example.com"),
+        "http://foo.example.com",
         false,
     ),
-    (Parts(Hosts::Suffix("127.0.0.1")), "http://127.0.0.1", true),
-    (Parts(Hosts::Suffix("[::1]")), "http://[::1]", true),
-    (Parts(Hosts::Suffix("")), "http://a.com./", true),
-    (Parts(Hosts::Suffix("")), "http://a.com/", false),
-    (Host("http://example.com"), "http://example.com", true),
+    (Origin::Suffix("example.com"), "http://example.org", false),
+    (Origin::Suffix("example.com"), "http://xample.com", false),
+    (Origin::Suffix("127.0.0.1"), "http://127.0.0.1", true),
+    (Origin::Suffix("[::1]"), "http://[::1]", true),
+    (Origin::Suffix(""), "http://a.com./", true),
+    (Origin::Suffix(""), "http://a.com/", false),
     (
-        Host("http://example.com"),
+        Origin::Host("http://example.com"),
+        "http://example.com",
+        true,
+    ),
+    (
+        Origin::Host("http://example.com"),
         "http://example.com:8080/foo/bar",
         true,
     ),
-    (Host("http://example.com"), "http://127.0.0.1", false),
     (
-        Host("http://example.com"),
-        "http://127.0.0.1:8080/foo/bar",
+        Origin::Host("http://example.com"),
+        "http://127.0.0.1",
         false,
     ),
-    (Host("http://example.com"), "http://[::1]", false),
+    (Origin::Host("http://example.com"), "http://[::1]", false),
     (
-        Host("http://example.com"),
+        Origin::Host("http://example.com"),
+        "http://foo.example.com",
+        false,
+    ),
+    (Origin::Host("http://example.com"), "data:x", false),
+    (
+        Origin::Host("http://127.0.0.1"),
+        "http://example.com",
+        false,
+    ),
+    (Origin::Host("http://127.0.0.1"), "http://127.0.0.1", true),
+    (
+        Origin::Host("http://127.0.0.1"),
+        "http://127.0.0.1:8080/foo/bar",
+        true,
+    ),
+    (Origin::Host("http://127.0.0.1"), "http://[::1]", false),
+    (Origin::Host("http://[::1]"), "http://example.com", false),
+    (Origin::Host("http://[::1]"), "http://[::1]", true),
+    (
+        Origin::Host("http://[::1]"),
         "http://[::1]:8080/foo/bar",
-        false,
-    ),
-    (Host("http://example.com"), "http://foo.example.com", false),
-    (Host("http://example.com"), "data:x", false),
-    (Host("http://127.0.0.1"), "http://example.com", false),
-    (
-        Host("http://127.0.0.1"),
-        "http://example.com:8080/foo/bar",
-        false,
-    ),
-    (Host("http://127.0.0.1"), "http://127.0.0.1", true),
-    (
-        Host("http://127.0.0.1"),
-        "http://127.0.0.1:8080/foo/bar",
         true,
     ),
-    (Host("http://127.0.0.1"), "http://[::1]", false),
-    (Host("http://127.0.0.1"), "http://[::1]:8080/foo/bar", false),
-    (Host("http://127.0.0.1"), "http://foo.example.com", false),
-    (Host("http://127.0.0.1"), "data:x", false),
-    (Host("http://[::1]"), "http://example.com", false),
-    (
-        Host("http://[::1]"),
-        "http://example.com:8080/foo/bar",
-        false,
-    ),
-    (Host("http://[::1]"), "http://127.0.0.1", false),
-    (Host("http://[::1]"), "http://127.0.0.1:8080/foo/bar", false),
-    (Host("http://[::1]"), "http://[::1]", true),
-    (Host("http://[::1]"), "http://[::1]:8080/foo/bar", true),
-    (Host("http://[::1]"), "http://foo.example.com", false),
-    (Host("http://[::1]"), "data:x", false),
 ];
 
-fn covers(rt: &impl Abort, alloc: Global, row: &(Origin, &str, bool)) {
+fn covers(rt: &impl Abort, alloc: Global, row: &(Origin<'_>, &str, bool)) {
     let (origin, at, wanted) = row;
-    let url = Url::parse(alloc, at).expect(rt, "a URL");
+    let url = url(rt, alloc, at);
     let domain = built(rt, alloc, origin).expect(rt, "memory");
-    is_equal(rt, domain.matches(&url), *wanted, row);
+    is_equal(rt, &domain.matches(&url), wanted, row);
+}
+
+#[test]
+fn a_domain_covers_hosts(rt: HostRuntime) {
+    for row in &COVERS {
+        covers(&rt, rt.alloc(), row);
+    }
 }
 
 // A domain as a string, a URL, and whether the domain matches the URL's host.
-const NAMED: &[(&str, &str, bool)] = &[
+static NAMED: [(&str, &str, bool); 11] = [
     ("0.0.1", "http://127.0.0.1", false),
     ("127.0.0.1", "http://127.0.0.1", true),
     ("example.com", "http://fooexample.com", false),
@@ -225,97 +218,50 @@ const NAMED: &[(&str, &str, bool)] = &[
     ("example.com", "data:x", false),
 ];
 
-fn is_matched(rt: &impl Abort, alloc: Global, row: &(&str, &str, bool)) {
-    let (text, at, wanted) = *row;
-    let url = Url::parse(alloc, at).expect(rt, "a URL");
-    let is_for = is_match(alloc, text, &url).expect(rt, "memory");
-    is_equal(rt, is_for, wanted, row);
-}
-
 #[test]
-fn a_domain_covers_hosts(rt: HostRuntime) {
-    for row in COVERS {
-        covers(&rt, rt.alloc(), row);
-    }
-    for row in NAMED {
-        is_matched(&rt, rt.alloc(), row);
-    }
-}
-
-// Two domains, and how the first compares with the second.
-const ORDERS: &[(Hosts, Hosts, Ordering)] = &[
-    (Hosts::HostOnly("b"), Hosts::Suffix("a"), Ordering::Less),
-    (Hosts::Suffix("b"), Hosts::NotPresent, Ordering::Less),
-    (Hosts::NotPresent, Hosts::Empty, Ordering::Less),
-    (Hosts::HostOnly("a"), Hosts::HostOnly("b"), Ordering::Less),
-    (Hosts::HostOnly("a"), Hosts::HostOnly("a.b"), Ordering::Less),
-    (Hosts::Suffix("a"), Hosts::Suffix("b"), Ordering::Less),
-    (Hosts::HostOnly("a"), Hosts::Suffix("a"), Ordering::Less),
-    (Hosts::Suffix(""), Hosts::Empty, Ordering::Less),
-    (
-        Hosts::HostOnly("a.b"),
-        Hosts::HostOnly("a.b"),
-        Ordering::Equal,
-    ),
-    (Hosts::Suffix("a.b"), Hosts::Suffix("a.b"), Ordering::Equal),
-    (Hosts::NotPresent, Hosts::NotPresent, Ordering::Equal),
-    (Hosts::Empty, Hosts::Empty, Ordering::Equal),
-];
-
-fn are_compared(rt: &impl Abort, alloc: Global, row: &(Hosts, Hosts, Ordering)) {
-    let (first, second, wanted) = row;
-    let first = domain_of(rt, alloc, first);
-    let second = domain_of(rt, alloc, second);
-    are_ordered(rt, &first, &second, *wanted);
-}
-
-#[test]
-fn domains_are_in_order(rt: HostRuntime) {
-    for row in ORDERS {
-        are_compared(&rt, rt.alloc(), row);
+fn a_domain_name_covers_hosts(rt: HostRuntime) {
+    for row in &NAMED {
+        let url = url(&rt, rt.alloc(), row.1);
+        let is_for = is_match(rt.alloc(), row.0, &url).expect(&rt, "memory");
+        is_equal(&rt, &is_for, &row.2, row);
     }
 }
 
 const LIST: &str = "com\n*.ck\n!www.ck\n*.www.ck\n";
 
 // A domain, and whether it is a public suffix.
-const PUBLIC_SUFFIXES: &[(Hosts, bool)] = &[
-    (Hosts::HostOnly("com"), true),
-    (Hosts::HostOnly("com."), true),
-    (Hosts::HostOnly("a.com"), false),
-    (Hosts::HostOnly("zz"), false),
-    (Hosts::HostOnly("foo.ck"), true),
-    (Hosts::HostOnly("ck"), false),
-    (Hosts::HostOnly("www.ck"), false),
-    (Hosts::HostOnly(""), false),
-    (Hosts::Suffix("com"), true),
-    (Hosts::Suffix("com."), true),
-    (Hosts::Suffix("a.com"), false),
-    (Hosts::Suffix("zz"), false),
-    (Hosts::Suffix("foo.ck"), true),
-    (Hosts::Suffix("ck"), false),
-    (Hosts::Suffix("www.ck"), false),
-    (Hosts::Suffix(""), false),
-    (Hosts::NotPresent, false),
-    (Hosts::Empty, false),
+static PUBLIC_SUFFIXES: [(Origin<'static>, bool); 14] = [
+    (Origin::HostOnly("com"), true),
+    (Origin::HostOnly("com."), true),
+    (Origin::HostOnly("a.com"), false),
+    (Origin::HostOnly("zz"), false),
+    (Origin::HostOnly("foo.ck"), true),
+    (Origin::HostOnly("ck"), false),
+    (Origin::HostOnly("www.ck"), false),
+    (Origin::HostOnly(""), false),
+    (Origin::Suffix("com"), true),
+    (Origin::Suffix("foo.ck"), true),
+    (Origin::Suffix("ck"), false),
+    (Origin::Suffix(""), false),
+    (Origin::NotPresent, false),
+    (Origin::Empty, false),
 ];
 
-fn is_public(rt: &impl Abort, alloc: Global, row: &(Hosts, bool)) {
-    let (hosts, wanted) = row;
-    let domain = domain_of(rt, alloc, hosts);
-    let list = List::from_text(alloc, LIST).expect(rt, "a list");
-    is_equal(rt, domain.is_public_suffix(&list), *wanted, row);
+fn is_public(rt: &impl Abort, alloc: Global, list: &List, row: &(Origin<'_>, bool)) {
+    let domain = built(rt, alloc, &row.0).expect(rt, "memory");
+    is_equal(rt, &domain.is_public_suffix(list), &row.1, row);
 }
 
 #[test]
 fn a_listed_domain_is_a_public_suffix(rt: HostRuntime) {
-    for row in PUBLIC_SUFFIXES {
-        is_public(&rt, rt.alloc(), row);
+    let list = List::from_text(rt.alloc(), LIST).expect(&rt, "memory");
+    for row in &PUBLIC_SUFFIXES {
+        is_public(&rt, rt.alloc(), &list, row);
     }
 }
 
 // A host, and whether it is a host name.
-const NAMES: &[(&str, bool)] = &[
+static NAMES: [(&str, bool); 12] = [
     ("example.com", true),
     ("1.2.3", true),
     ("1.2.3.4.5", true),
@@ -332,24 +278,7 @@ const NAMES: &[(&str, bool)] = &[
 
 #[test]
 fn an_address_is_no_name(rt: HostRuntime) {
-    for (host, wanted) in NAMES {
-        is_equal(&rt, is_host_name(host), *wanted, host);
-    }
-}
-
-// Strings, and whether they are URLs.
-const URLS: &[(&str, bool)] = &[
-    ("http://example.com/a?b#c", true),
-    ("mailto:a@example.com", true),
-    ("example.com", false),
-    ("http://", false),
-    ("", false),
-];
-
-#[test]
-fn urls_are_parsed(rt: HostRuntime) {
-    for (text, wanted) in URLS {
-        let url = parse_url(rt.alloc(), text).expect(&rt, "memory");
-        is_equal(&rt, url.is_some(), *wanted, text);
+    for (host, wanted) in &NAMES {
+        is_equal(&rt, &is_host_name(host), wanted, host);
     }
 }

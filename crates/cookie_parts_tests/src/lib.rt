@@ -3,11 +3,7 @@
 #![tactic(auto)]
 
 #[cfg(test)]
-mod allocations;
-#[cfg(test)]
 mod checks;
-#[cfg(test)]
-mod conversion;
 #[cfg(test)]
 mod cookie;
 #[cfg(test)]
@@ -17,13 +13,11 @@ mod device_writes;
 #[cfg(test)]
 mod domain;
 #[cfg(test)]
-mod error;
-#[cfg(test)]
-mod exclusion;
-#[cfg(test)]
 mod expiry;
 #[cfg(test)]
 mod large;
+#[cfg(test)]
+mod messages;
 #[cfg(test)]
 mod parts;
 #[cfg(test)]
@@ -33,6 +27,8 @@ mod psl;
 #[cfg(test)]
 mod raw;
 #[cfg(test)]
-mod ron;
+mod requests;
 #[cfg(test)]
 mod saved;
+#[cfg(test)]
+mod times;

@@ -1,79 +1,81 @@
-//! Saved forms in JSON.
-use crate::checks::{holds, is_equal, is_text};
-use crate::parts::{Fields, moment_of};
+//! Saved forms in JSON and RON.
+use crate::checks::{is_equal, is_text};
 use cookie_saved::{
-    Saved, SavedError, SavedExpiry, from_text, from_value, list_from_text, list_from_value,
-    list_to_text, list_to_value, moment_text, read_moment, to_text, to_value,
+    Saved, SavedError, from_ron, from_text, from_value, list_from_text, list_from_value,
+    list_to_text, list_to_value, to_ron, to_text, to_value,
 };
-use jiff::civil::DateTime;
 use serde_json::Value;
 use std::alloc::Global;
 use std::process::Abort;
 
-// A string, and its time.
-const MOMENTS: &[(&str, Option<Fields>)] = &[
-    ("2026-01-01T00:00:00Z", Some((2026, 1, 1, 0, 0, 0, 0))),
-    (
-        "2024-02-29T23:59:59.5Z",
-        Some((2024, 2, 29, 23, 59, 59, 500_000_000)),
-    ),
-    (
-        "2026-07-04T13:25:46.000000001Z",
-        Some((2026, 7, 4, 13, 25, 46, 1)),
-    ),
-    ("0000-01-01T00:00:00Z", Some((0, 1, 1, 0, 0, 0, 0))),
-    (
-        "9999-12-31T23:59:59.999999999Z",
-        Some((9999, 12, 31, 23, 59, 59, 999_999_999)),
-    ),
-    ("2026-13-01T00:00:00Z", None),
-    ("2026-02-29T00:00:00Z", None),
-    ("2026-01-01T00:00:00.Z", None),
-    ("2026-01-01T00:00:00.1234567890Z", None),
-    ("2026-01-01T00:00:00z", None),
-    ("2026-01-01T24:00:00Z", None),
-    ("2026-01-01T00:00:60Z", None),
-    ("+026-01-01T00:00:00Z", None),
-    ("2026-01-01 00:00:00Z", None),
-    ("2026-01-01T00:00:00", None),
-    ("", None),
-];
+// A cookie or a list, by the string of its JSON or by the JSON value, or a list in RON.
+#[derive(Clone, Copy, Debug)]
+pub(crate) enum Form {
+    Cookie,
+    List,
+    CookieTree,
+    ListTree,
+    Ron,
+}
 
-#[test]
-fn reads_moments(rt: HostRuntime) {
-    for (text, fields) in MOMENTS {
-        is_equal(&rt, read_moment(text), moment_of(&rt, *fields), text);
+fn tree(rt: &impl Abort, alloc: Global, text: &str) -> Value {
+    Value::from_str(alloc, text).expect(rt, "memory")
+}
+
+// Prints the JSON value of the cookie.
+fn cookie_by_tree(rt: &impl Abort, alloc: Global, saved: &Saved) -> String {
+    let tree = to_value(alloc, saved).expect(rt, "memory");
+    tree.to_string(alloc).expect(rt, "memory")
+}
+
+// The same for a list.
+fn list_by_tree(rt: &impl Abort, alloc: Global, list: &[Saved]) -> String {
+    let tree = list_to_value(alloc, list).expect(rt, "memory");
+    tree.to_string(alloc).expect(rt, "memory")
+}
+
+// Reads the form and prints it again, or returns the error.
+fn printed_again(
+    rt: &impl Abort,
+    alloc: Global,
+    form: Form,
+    text: &str,
+) -> Result<String, SavedError> {
+    match form {
+        Form::Cookie => to_text(alloc, &from_text(alloc, text)?),
+        Form::List => list_to_text(alloc, &list_from_text(alloc, text)?),
+        Form::CookieTree => {
+            let saved = from_value(alloc, &tree(rt, alloc, text))?;
+            Ok(cookie_by_tree(rt, alloc, &saved))
+        }
+        Form::ListTree => {
+            let list = list_from_value(alloc, &tree(rt, alloc, text))?;
+            Ok(list_by_tree(rt, alloc, &list))
+        }
+        Form::Ron => to_ron(alloc, &from_ron(alloc, text)?),
     }
 }
 
-// A time, and its string.
-const TEXTS: &[(Fields, Result<&str, SavedError>)] = &[
-    ((2026, 1, 1, 0, 0, 0, 0), Ok("2026-01-01T00:00:00Z")),
-    (
-        (2024, 2, 29, 23, 59, 59, 999_999_999),
-        Ok("2024-02-29T23:59:59Z"),
-    ),
-    ((33, 4, 5, 6, 7, 8, 0), Ok("0033-04-05T06:07:08Z")),
-    ((0, 1, 1, 0, 0, 0, 0), Ok("0000-01-01T00:00:00Z")),
-    ((9999, 12, 31, 23, 59, 59, 0), Ok("9999-12-31T23:59:59Z")),
-    ((-1, 12, 31, 23, 59, 59, 0), Err(SavedError::Moment)),
-];
-
-fn is_written_as(rt: &impl Abort, alloc: Global, row: &(Fields, Result<&str, SavedError>)) {
-    let moment = moment_of(rt, Some(row.0)).expect(rt, "a time");
-    is_text(rt, &moment_text(alloc, moment), row.1, row);
-}
-
-#[test]
-fn writes_moments(rt: HostRuntime) {
-    for row in TEXTS {
-        is_written_as(&rt, rt.alloc(), row);
+// Checks what the form is printed as again, or the error.
+pub(crate) fn is_printed_again(
+    rt: &impl Abort,
+    alloc: Global,
+    form: Form,
+    text: &str,
+    wanted: Result<&str, SavedError>,
+) {
+    match printed_again(rt, alloc, form, text) {
+        Ok(printed) => is_text(rt, printed.as_str(), wanted.unwrap_or("an error"), &text),
+        Err(error) => is_equal(rt, &Err(error), &wanted, &text),
     }
 }
 
-// A saved cookie as JSON, and one of each kind that is an error.
-const WHOLE: &str = r#"{"raw_cookie": "a=1", "path": ["/", true],
+const SPACED: &str = r#"{"raw_cookie": "a=1", "path": ["/", true],
     "domain": {"HostOnly": "a.com"}, "expires": {"AtUtc": "2100-01-01T00:00:00Z"}}"#;
+
+// Members in the order of their names, and no spaces.
+const COMPACT: &str =
+    r#"{"domain":{"HostOnly":"a.com"},"expires":{"AtUtc":"2100-01-01T00:00:00Z"},"path":["/",true],"raw_cookie":"a=1"}"#;
 
 const NO_MOMENT: &str = r#"{"raw_cookie": "a=1", "path": ["/", true],
     "domain": "Empty", "expires": {"AtUtc": "2100-02-29T00:00:00Z"}}"#;
@@ -81,205 +83,277 @@ const NO_MOMENT: &str = r#"{"raw_cookie": "a=1", "path": ["/", true],
 const NO_SHAPE: &str = r#"{"raw_cookie": "a=1", "path": ["/"],
     "domain": "Empty", "expires": "SessionEnd"}"#;
 
-// The JSON of a cookie, of the cookies of a list, or of a value that is not a list.
-#[derive(Debug)]
-enum Given {
-    Cookie(&'static str),
-    List(&'static [&'static str]),
-    NoList(&'static str),
-}
+const FLOAT: &str = r#"{"x": 1.5, "raw_cookie": "a=1", "path": ["/", true],
+    "domain": "NotPresent", "expires": "SessionEnd"}"#;
 
-// JSON values, and the error, if there is one.
-const TREES: &[(Given, Option<SavedError>)] = &[
-    (Given::Cookie(WHOLE), None),
-    (
-        Given::Cookie(
-            r#"{"x": 1, "expires": "SessionEnd", "domain": {"Suffix": ""}, "path": ["", false],
-            "raw_cookie": "nopair"}"#,
-        ),
-        None,
-    ),
-    (
-        Given::Cookie(
-            r#"{"x": 1.5, "raw_cookie": "a=1", "path": ["/", true],
-            "domain": "NotPresent", "expires": "SessionEnd"}"#,
-        ),
-        Some(SavedError::Shape),
-    ),
-    (
-        Given::Cookie(
-            r#"{"x": [{"y": 1e1}], "raw_cookie": "a=1", "path": ["/", true],
-            "domain": "NotPresent", "expires": "SessionEnd"}"#,
-        ),
-        Some(SavedError::Shape),
-    ),
-    (Given::Cookie(NO_MOMENT), Some(SavedError::Moment)),
-    (Given::Cookie(NO_SHAPE), Some(SavedError::Shape)),
-    (
-        Given::Cookie(
-            r#"{"raw_cookie": "a=1", "path": ["/", true, true],
-            "domain": "Empty", "expires": {"AtUtc": "2100-02-29T00:00:00Z"}}"#,
-        ),
-        Some(SavedError::Shape),
-    ),
-    (
-        Given::Cookie(
-            r#"{"raw_cookie": "a=1", "path": ["/", true],
-            "domain": {"Empty": null}, "expires": "SessionEnd"}"#,
-        ),
-        Some(SavedError::Shape),
-    ),
-    (
-        Given::Cookie(
-            r#"{"raw_cookie": "a=1", "path": ["/", true],
-            "domain": {"HostOnly": "a.com", "Suffix": "a.com"}, "expires": "SessionEnd"}"#,
-        ),
-        Some(SavedError::Shape),
-    ),
-    (
-        Given::Cookie(r#"{"path": ["/", true], "domain": "Empty", "expires": "SessionEnd"}"#),
-        Some(SavedError::Shape),
-    ),
-    (
-        Given::Cookie(r#"["a=1", ["/", true], "Empty", "SessionEnd"]"#),
-        Some(SavedError::Shape),
-    ),
-    (Given::List(&[]), None),
-    (Given::List(&[WHOLE, WHOLE]), None),
-    (Given::List(&[WHOLE, NO_MOMENT]), Some(SavedError::Moment)),
-    (Given::List(&[NO_MOMENT, NO_SHAPE]), Some(SavedError::Shape)),
-    (Given::List(&[NO_SHAPE, WHOLE]), Some(SavedError::Shape)),
-    (Given::List(&["1.5"]), Some(SavedError::Shape)),
-    (Given::NoList(WHOLE), Some(SavedError::Shape)),
-];
+// A form, an input, and how it is printed again, or the error.
+type Row = (Form, &'static str, Result<&'static str, SavedError>);
 
-fn tree(rt: &impl Abort, alloc: Global, text: &str) -> Value {
-    Value::from_str(alloc, text).expect(rt, "a tree")
-}
-
-// The JSON array of these values.
-fn list_of(rt: &impl Abort, alloc: Global, trees: &[&str]) -> Value {
-    let mut list = Vec::new(alloc);
-    for text in trees {
-        list.push(tree(rt, alloc, text)).expect(rt, "memory");
-    }
-    Value::Array(list)
-}
-
-fn tree_of(rt: &impl Abort, alloc: Global, given: &Given) -> Value {
-    match given {
-        Given::Cookie(text) | Given::NoList(text) => tree(rt, alloc, text),
-        Given::List(trees) => list_of(rt, alloc, trees),
-    }
-}
-
-fn error_of(alloc: Global, tree: &Value, is_cookie: bool) -> Option<SavedError> {
-    if is_cookie {
-        from_value(alloc, tree).err()
-    } else {
-        list_from_value(alloc, tree).err()
-    }
-}
-
-#[test]
-fn reads_trees(rt: HostRuntime) {
-    for (given, wanted) in TREES {
-        let is_cookie = matches!(given, Given::Cookie(_));
-        let error = error_of(rt.alloc(), &tree_of(&rt, rt.alloc(), given), is_cookie);
-        is_equal(&rt, error, *wanted, given);
-    }
-}
-
-// JSON of a cookie, and the error, if there is one.
-const JSON: &[(&str, Option<SavedError>)] = &[
-    (WHOLE, None),
+static JSON: [Row; 33] = [
+    (Form::Cookie, SPACED, Ok(COMPACT)),
     (
+        Form::Cookie,
         r#"{"path": ["\u002f", true], "path": ["/", false], "domain": {"Suffix": "a.com"},
             "expires": "SessionEnd", "raw_cookie": "a=\"1\""}"#,
-        None,
+        Ok(
+            r#"{"domain":{"Suffix":"a.com"},"expires":"SessionEnd","path":["/",false],"raw_cookie":"a=\"1\""}"#,
+        ),
     ),
     (
+        Form::Cookie,
         r#"{"x": [1, {"y": null}], "raw_cookie": "a=1", "path": ["/", true],
             "domain": {"Suffix": "b", "Suffix": "a.com"}, "expires": "SessionEnd"}"#,
-        None,
+        Ok(
+            r#"{"domain":{"Suffix":"a.com"},"expires":"SessionEnd","path":["/",true],"raw_cookie":"a=1"}"#,
+        ),
     ),
     (
-        r#"{"x": 1.5, "raw_cookie": "a=1", "path": ["/", true],
-            "domain": "NotPresent", "expires": "SessionEnd"}"#,
-        Some(SavedError::Shape),
-    ),
-    (
+        Form::Cookie,
         r#"{"raw_cookie": "a=1", "path": ["/", true], "path": 1,
             "domain": "NotPresent", "expires": "SessionEnd"}"#,
-        Some(SavedError::Shape),
+        Err(SavedError::Shape),
     ),
-    (NO_MOMENT, Some(SavedError::Moment)),
-    (NO_SHAPE, Some(SavedError::Shape)),
-    ("7", Some(SavedError::Shape)),
-    ("1e999", Some(SavedError::Json)),
-    ("{", Some(SavedError::Json)),
+    (Form::Cookie, FLOAT, Err(SavedError::Shape)),
+    (Form::Cookie, NO_MOMENT, Err(SavedError::Moment)),
+    (Form::Cookie, NO_SHAPE, Err(SavedError::Shape)),
+    (Form::Cookie, "7", Err(SavedError::Shape)),
+    (Form::Cookie, "1e999", Err(SavedError::Json)),
+    (Form::Cookie, "{", Err(SavedError::Json)),
+    (
+        Form::List,
+        r#"[{"raw_cookie": "a=1", "path": ["/", true], "domain": "Empty", "expires": "SessionEnd"}]"#,
+        Ok(
+            r#"[
+  {
+    "domain": "Empty",
+    "expires": "SessionEnd",
+    "path": [
+      "/",
+      true
+    ],
+    "raw_cookie": "a=1"
+  }
+]"#,
+        ),
+    ),
+    (Form::List, "[]", Ok("[]")),
+    (Form::List, "[7]", Err(SavedError::Shape)),
+    (Form::List, SPACED, Err(SavedError::Shape)),
+    (Form::List, "[1e999]", Err(SavedError::Json)),
+    (Form::List, "[{]", Err(SavedError::Json)),
+    (Form::CookieTree, SPACED, Ok(COMPACT)),
+    (
+        Form::CookieTree,
+        r#"{"x": 1, "expires": "SessionEnd", "domain": {"Suffix": ""}, "path": ["", false],
+            "raw_cookie": "nopair"}"#,
+        Ok(
+            r#"{"domain":{"Suffix":""},"expires":"SessionEnd","path":["",false],"raw_cookie":"nopair"}"#,
+        ),
+    ),
+    (Form::CookieTree, FLOAT, Err(SavedError::Shape)),
+    (
+        Form::CookieTree,
+        r#"{"x": [{"y": 1e1}], "raw_cookie": "a=1", "path": ["/", true],
+            "domain": "NotPresent", "expires": "SessionEnd"}"#,
+        Err(SavedError::Shape),
+    ),
+    (Form::CookieTree, NO_MOMENT, Err(SavedError::Moment)),
+    (Form::CookieTree, NO_SHAPE, Err(SavedError::Shape)),
+    (
+        Form::CookieTree,
+        r#"{"raw_cookie": "a=1", "path": ["/", true, true],
+            "domain": "Empty", "expires": {"AtUtc": "2100-02-29T00:00:00Z"}}"#,
+        Err(SavedError::Shape),
+    ),
+    (
+        Form::CookieTree,
+        r#"{"raw_cookie": "a=1", "path": ["/", true],
+            "domain": {"Empty": null}, "expires": "SessionEnd"}"#,
+        Err(SavedError::Shape),
+    ),
+    (
+        Form::CookieTree,
+        r#"{"raw_cookie": "a=1", "path": ["/", true],
+            "domain": {"HostOnly": "a.com", "Suffix": "a.com"}, "expires": "SessionEnd"}"#,
+        Err(SavedError::Shape),
+    ),
+    (
+        Form::CookieTree,
+        r#"{"path": ["/", true], "domain": "Empty", "expires": "SessionEnd"}"#,
+        Err(SavedError::Shape),
+    ),
+    (
+        Form::CookieTree,
+        r#"["a=1", ["/", true], "Empty", "SessionEnd"]"#,
+        Err(SavedError::Shape),
+    ),
+    (Form::ListTree, "[]", Ok("[]")),
+    (
+        Form::ListTree,
+        r#"[{"raw_cookie": "a=1", "path": ["/", true], "domain": "Empty", "expires": "SessionEnd"},
+            {"raw_cookie": "b=1", "path": ["/", true], "domain": "Empty", "expires": "SessionEnd"}]"#,
+        Ok(
+            r#"[{"domain":"Empty","expires":"SessionEnd","path":["/",true],"raw_cookie":"a=1"},{"domain":"Empty","expires":"SessionEnd","path":["/",true],"raw_cookie":"b=1"}]"#,
+        ),
+    ),
+    (
+        Form::ListTree,
+        r#"[{"raw_cookie": "a=1", "path": ["/", true], "domain": "Empty", "expires": "SessionEnd"},
+            {"raw_cookie": "a=1", "path": ["/", true], "domain": "Empty",
+            "expires": {"AtUtc": "2100-02-29T00:00:00Z"}}]"#,
+        Err(SavedError::Moment),
+    ),
+    // The shape of all items is tested before any time.
+    (
+        Form::ListTree,
+        r#"[{"raw_cookie": "a=1", "path": ["/", true], "domain": "Empty",
+            "expires": {"AtUtc": "2100-02-29T00:00:00Z"}},
+            {"raw_cookie": "a=1", "path": ["/"], "domain": "Empty", "expires": "SessionEnd"}]"#,
+        Err(SavedError::Shape),
+    ),
+    (Form::ListTree, "[1.5]", Err(SavedError::Shape)),
+    (Form::ListTree, SPACED, Err(SavedError::Shape)),
 ];
 
-// The error of reading the JSON of a cookie, and of a list of it alone.
-fn text_errors(alloc: Global, text: &str) -> (Option<SavedError>, Option<SavedError>) {
-    let list = format!(in alloc; "[{text}]");
-    (
-        from_text(alloc, text).err(),
-        list.map_err(SavedError::from)
-            .and_then(|list| list_from_text(alloc, &list))
-            .err(),
-    )
-}
-
 #[test]
-fn reads_texts(rt: HostRuntime) {
-    for (text, wanted) in JSON {
-        is_equal(&rt, text_errors(rt.alloc(), text), (*wanted, *wanted), text);
+fn json_is_read_and_printed(rt: HostRuntime) {
+    for (form, text, wanted) in &JSON {
+        is_printed_again(&rt, rt.alloc(), *form, text, *wanted);
     }
 }
 
+const ONE: &str = r#"[
+    (
+        raw_cookie: "2=two; SameSite=None; Secure; Path=/; Expires=Tue, 03 Aug 2100 00:38:37 GMT",
+        path: ("/", true),
+        domain: HostOnly("test.com"),
+        expires: AtUtc("2100-08-03T00:38:37Z"),
+    ),
+]"#;
+
+const THREE: &str = r#"[
+    (
+        raw_cookie: "a=1",
+        path: ("/a", false),
+        domain: Suffix("b.com"),
+        expires: SessionEnd,
+    ),
+    (
+        raw_cookie: "",
+        path: ("", true),
+        domain: NotPresent,
+        expires: AtUtc("0000-01-01T00:00:00Z"),
+    ),
+    (
+        raw_cookie: "c=3",
+        path: ("/", true),
+        domain: Empty,
+        expires: AtUtc("9999-12-31T23:59:59Z"),
+    ),
+]"#;
+
+// Characters as they are, and by each escape.
+const QUOTED: &str =
+    "[(raw_cookie: \"a\tb\n \\t\\\"\\u{7}é \\\\\\n\\r\\0\\' \\x41\\x7f\\xE9 \\u{1F36A}\\u{1f36a}\\u{00041} \\u{85}\\u{9f}\\u{a0} \\u{10FFFF}\\u{E000}\\u{d7ff}\",
+    path: (\"/\", true), domain: Empty, expires: SessionEnd)]";
+
+const QUOTED_AGAIN: &str = "[
+    (
+        raw_cookie: \"a\\tb\\n \\t\\\"\\u{7}é \\\\\\n\\r\\u{0}' A\\u{7f}é 🍪🍪A \\u{85}\\u{9f}\u{a0} \u{10FFFF}\u{E000}\u{d7ff}\",
+        path: (\"/\", true),
+        domain: Empty,
+        expires: SessionEnd,
+    ),
+]";
+
+// A list in RON, and how it is printed again, or the error.
+static RON: [(&str, Result<&str, SavedError>); 25] = [
+    (ONE, Ok(ONE)),
+    (THREE, Ok(THREE)),
+    (
+        r#"[(raw_cookie:"a=1",path:("/a",false),domain:Suffix("b.com"),expires:SessionEnd),
+        (raw_cookie : "", path : ("", true,), domain : NotPresent, expires : AtUtc("0000-01-01T00:00:00.75Z",),),
+        (raw_cookie:"c=3",path:("/",true),domain:Empty,expires:AtUtc ( "9999-12-31T23:59:59Z"))]"#,
+        Ok(THREE),
+    ),
+    (QUOTED, Ok(QUOTED_AGAIN)),
+    ("[]", Ok("[]")),
+    (" [\t] \n\r", Ok("[]")),
+    ("[,]", Err(SavedError::Ron)),
+    ("[] x", Err(SavedError::Ron)),
+    (
+        r#"[(raw_cookie: "a=1", path: ("/", true), domain: Empty, expires: SessionEnd)"#,
+        Err(SavedError::Ron),
+    ),
+    (
+        r#"[(raw_cookie: "a=1", path: ("/", true), domain: Empty, expires: SessionEnd),,]"#,
+        Err(SavedError::Ron),
+    ),
+    (
+        r#"[(path: ("/", true), raw_cookie: "a=1", domain: Empty, expires: SessionEnd)]"#,
+        Err(SavedError::Ron),
+    ),
+    (
+        r#"[(raw_cookie: "a=1", path: ("/", True), domain: Empty, expires: SessionEnd)]"#,
+        Err(SavedError::Ron),
+    ),
+    (
+        r#"[(raw_cookie: "a=1", path: ("/", true), domain: Empty(), expires: SessionEnd)]"#,
+        Err(SavedError::Ron),
+    ),
+    (
+        r#"[(raw_cookie: "a=1", path: ("/", true), domain: Empty, expires: AtUtc("2100-02-29T00:00:00Z"))]"#,
+        Err(SavedError::Moment),
+    ),
+    (
+        r#"[(raw_cookie: "a=1", path: ("/", true), domain: Empty, expires: AtUtc("2100-02-29T00:00:00Z"))"#,
+        Err(SavedError::Ron),
+    ),
+    (
+        r#"[(raw_cookie: "\q", path: ("/", true), domain: Empty, expires: SessionEnd)]"#,
+        Err(SavedError::Ron),
+    ),
+    (
+        r#"[(raw_cookie: "\", path: ("/", true), domain: Empty, expires: SessionEnd)]"#,
+        Err(SavedError::Ron),
+    ),
+    (
+        r#"[(raw_cookie: "\x4", path: ("/", true), domain: Empty, expires: SessionEnd)]"#,
+        Err(SavedError::Ron),
+    ),
+    (
+        r#"[(raw_cookie: "\x4g", path: ("/", true), domain: Empty, expires: SessionEnd)]"#,
+        Err(SavedError::Ron),
+    ),
+    (
+        r#"[(raw_cookie: "\u{}", path: ("/", true), domain: Empty, expires: SessionEnd)]"#,
+        Err(SavedError::Ron),
+    ),
+    (
+        r#"[(raw_cookie: "\u{D800}", path: ("/", true), domain: Empty, expires: SessionEnd)]"#,
+        Err(SavedError::Ron),
+    ),
+    (
+        r#"[(raw_cookie: "\u{110000}", path: ("/", true), domain: Empty, expires: SessionEnd)]"#,
+        Err(SavedError::Ron),
+    ),
+    (
+        r#"[(raw_cookie: "\u{0000041}", path: ("/", true), domain: Empty, expires: SessionEnd)]"#,
+        Err(SavedError::Ron),
+    ),
+    (
+        r#"[(raw_cookie: "\u41", path: ("/", true), domain: Empty, expires: SessionEnd)]"#,
+        Err(SavedError::Ron),
+    ),
+    (
+        r#"[(raw_cookie: "\N", path: ("/", true), domain: Empty, expires: SessionEnd)]"#,
+        Err(SavedError::Ron),
+    ),
+];
+
 #[test]
-fn a_cookie_is_written_as_it_was_read(rt: HostRuntime) {
-    let saved = from_text(rt.alloc(), WHOLE).expect(&rt, "a cookie");
-    let text = to_text(rt.alloc(), &saved).expect(&rt, "memory");
-    let is_same = tree(&rt, rt.alloc(), &text) == tree(&rt, rt.alloc(), WHOLE);
-    holds(&rt, is_same, &"a text");
-}
-
-// Asserts that the list is written as this JSON value, and its string is parsed as the same.
-fn is_written(rt: &impl Abort, alloc: Global, saved: &[Saved], list: &Value) {
-    let written = list_to_value(alloc, saved).expect(rt, "memory");
-    holds(rt, written == *list, &"a tree");
-    let text = list_to_text(alloc, saved).expect(rt, "memory");
-    holds(rt, tree(rt, alloc, &text) == *list, &"a text");
-}
-
-#[test]
-fn a_list_is_written_as_it_was_read(rt: HostRuntime) {
-    let list = list_of(&rt, rt.alloc(), &[WHOLE, WHOLE]);
-    let saved = list_from_value(rt.alloc(), &list).expect(&rt, "memory");
-    is_written(&rt, rt.alloc(), &saved, &list);
-}
-
-// A saved cookie whose expiry is before the year 0.
-fn early(rt: &impl Abort, alloc: Global) -> Saved {
-    let mut saved = from_value(alloc, &tree(rt, alloc, WHOLE)).expect(rt, "memory");
-    saved.expires = SavedExpiry::AtUtc(DateTime::MIN);
-    saved
-}
-
-#[test]
-fn an_expiry_before_the_year_0_has_no_tree(rt: HostRuntime) {
-    let list = [early(&rt, rt.alloc())];
-    let trees = (
-        to_value(rt.alloc(), &list[0]).err(),
-        list_to_value(rt.alloc(), &list).err(),
-    );
-    let texts = (
-        to_text(rt.alloc(), &list[0]).err(),
-        list_to_text(rt.alloc(), &list).err(),
-    );
-    let fault = Some(SavedError::Moment);
-    is_equal(&rt, trees, (fault, fault), &"a tree, a list");
-    is_equal(&rt, texts, (fault, fault), &"their texts");
+fn ron_is_read_and_printed(rt: HostRuntime) {
+    for (text, wanted) in &RON {
+        is_printed_again(&rt, rt.alloc(), Form::Ron, text, *wanted);
+    }
 }

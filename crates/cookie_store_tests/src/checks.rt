@@ -1,6 +1,6 @@
 //! Assertions, whose messages name the row of a table.
-use cookie_store::{CookieStore, Error};
-use std::fmt::Debug;
+use std::alloc::Global;
+use std::fmt::{Debug, Display};
 use std::process::Abort;
 
 // Checks that the value is the one wanted.
@@ -8,29 +8,27 @@ pub fn is_equal<T: Debug + PartialEq>(rt: &impl Abort, value: &T, wanted: &T, ro
     assert_eq!(rt; value, wanted, "at {row:?}");
 }
 
-// Checks that both stores have the same cookies in the same order.
-pub fn has_the_same_rows(rt: &impl Abort, store: &CookieStore, other: &CookieStore) {
-    let mut rows = store.iter_any();
-    for same in other.iter_any() {
-        let is_same = match rows.next() {
-            Some(row) => row == same,
-            None => false,
-        };
-        is_equal(rt, &is_same, &true, &same.name());
+// Checks that the string is the one wanted. The message has the lengths of long ones only.
+pub fn is_text(rt: &impl Abort, text: &str, wanted: &str, row: &impl Debug) {
+    if text.len() < 1_000 {
+        is_equal(rt, &text, &wanted, row);
+    } else {
+        let same = (text.len(), text == wanted);
+        is_equal(rt, &same, &(wanted.len(), true), row);
     }
-    is_equal(rt, &rows.next().is_none(), &true, &"a row behind all");
 }
 
-// The outcome of a call: `done`, or its error in short.
-pub fn end_of<T>(outcome: &Result<T, Error>) -> &str {
-    match outcome {
-        Ok(_) => "done",
-        Err(Error::Cookie(_)) => "a cookie",
-        Err(Error::Idna(_)) => "a domain",
-        Err(Error::Io) => "a device",
-        Err(Error::Saved(_)) => "a saved form",
-        Err(Error::Other(text)) => text.as_str(),
-        Err(Error::Memory) => "memory",
-        Err(Error::NotUtf8) => "not UTF-8",
-    }
+// Checks the message of the error; `wanted` is empty if there is none.
+pub fn is_message<T, E: Display>(
+    rt: &impl Abort,
+    alloc: Global,
+    outcome: &Result<T, E>,
+    wanted: &str,
+    row: &impl Debug,
+) {
+    let message = match outcome {
+        Ok(_) => String::new(alloc),
+        Err(error) => error.to_string(alloc).expect(rt, "memory"),
+    };
+    is_text(rt, message.as_str(), wanted, row);
 }

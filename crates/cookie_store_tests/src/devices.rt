@@ -1,21 +1,22 @@
 //! Readers and writers that fail, for each format of saving and loading.
 use crate::built::store_of;
-use crate::checks::{end_of, has_the_same_rows, is_equal};
-use crate::forms::{CASES, Case, FROM, RECEIVED, Shape, load, loaded, save};
-use crate::saved_lines::Selection;
-use crate::steps::new_year;
+use crate::checks::is_equal;
+use crate::formats::{Shape, end_of, load, save};
+use crate::saved_files::{FILES, FROM, File, text_in};
 use crate::texts::url;
 use cookie_fakes::Fake;
-use cookie_store::{CookieStore, Error};
+use cookie_store::CookieStore;
+use cookie_store::serde::FormatError;
 use std::alloc::Global;
 use std::process::Abort;
 use url::Url;
 
-// The format, which cookies, the most bytes of one call, and the number of the call that fails.
-type Failing<'a> = (Shape, &'a Selection, usize, usize);
+// The format, whether all cookies are saved or loaded, the most bytes of one call, and the number
+// of the call that fails.
+type Failing = (Shape, bool, usize, usize);
 
 // Checks that a beginning of the text was written, by the writes before the one that failed.
-fn is_beginning(rt: &impl Abort, written: &[u8], text: &str, row: &Failing<'_>) {
+fn is_beginning(rt: &impl Abort, written: &[u8], text: &str, row: &Failing) {
     let writes = row.3.saturating_sub(1);
     let is_part = text.as_bytes().starts_with(written)
         && (writes..=writes.saturating_mul(row.2)).contains(&written.len());
@@ -28,132 +29,105 @@ fn is_written_behind(
     alloc: Global,
     store: &CookieStore,
     text: &str,
-    row: &Failing<'_>,
+    row: &Failing,
     fake: Fake<Vec<u8>>,
 ) {
     let part = fake.inner.len();
-    let (outcome, failures, fake) = save(alloc, row.0, store, row.1, fake);
+    let (outcome, failures, fake) = save(alloc, row.0, row.1, store, fake);
     is_equal(rt, &(end_of(&outcome), failures), &("done", 0), row);
     let behind = fake.inner.as_slice().get(part..);
     is_equal(rt, &behind, &Some(text.as_bytes()), row);
 }
 
-// Checks that all is written, or that a write failed once and was not retried, and that saving
-// again writes all. Returns whether all was written at once.
+// Checks that all is written, or that a write failed once and was not retried, and that saving again
+// writes all.
+fn is_written(
+    rt: &impl Abort,
+    alloc: Global,
+    store: &CookieStore,
+    text: &str,
+    row: &Failing,
+    saved: (&str, u64),
+    fake: Fake<Vec<u8>>,
+) {
+    if saved.1 == 0 {
+        let written = (saved.0, fake.inner.as_slice());
+        is_equal(rt, &written, &("done", text.as_bytes()), row);
+    } else {
+        let end = (saved.0, saved.1, fake.calls);
+        is_equal(rt, &end, &("a failed call", 1, row.3), row);
+        is_beginning(rt, fake.inner.as_slice(), text, row);
+        is_written_behind(rt, alloc, store, text, row, fake);
+    }
+}
+
+// Returns whether all was written at once.
 fn is_saved_whole(
     rt: &impl Abort,
     alloc: Global,
     store: &CookieStore,
     text: &str,
-    row: &Failing<'_>,
+    row: &Failing,
 ) -> bool {
     let fake = Fake::new(Vec::new(alloc), row.2, row.3);
-    let (outcome, failures, fake) = save(alloc, row.0, store, row.1, fake);
-    let is_whole = outcome.is_ok();
-    if is_whole {
-        let written = (failures, fake.inner.as_slice());
-        is_equal(rt, &written, &(0, text.as_bytes()), row);
-    } else {
-        let end = (end_of(&outcome), failures, fake.calls);
-        is_equal(rt, &end, &("a device", 1, row.3), row);
-        is_beginning(rt, fake.inner.as_slice(), text, row);
-        is_written_behind(rt, alloc, store, text, row, fake);
-    }
-    is_whole
+    let (outcome, failures, fake) = save(alloc, row.0, row.1, store, fake);
+    let saved = (end_of(&outcome), failures);
+    is_written(rt, alloc, store, text, row, saved, fake);
+    failures == 0
 }
 
 // Saves with each write failing in turn, and at last without a failure.
-fn each_write_fails(
-    rt: &impl Abort,
-    alloc: Global,
-    store: &CookieStore,
-    case: &Case,
-    which: &Selection,
-    most: usize,
-) {
+fn each_write_fails(rt: &impl Abort, alloc: Global, file: &File, all: bool, most: usize) {
+    let store = store_of(rt, alloc, file.1);
     for fails_at in 1..1_000 {
-        if is_saved_whole(rt, alloc, store, case.1, &(case.0, which, most, fails_at)) {
+        let row = (file.0, all, most, fails_at);
+        if is_saved_whole(rt, alloc, &store, text_in(file, all), &row) {
             return;
         }
     }
     panic!(rt; "writing has no end");
 }
 
+// Checks that a writer that takes one byte is served, and one that takes nothing has failed.
+fn little_is_taken(rt: &impl Abort, alloc: Global, file: &File) {
+    let store = store_of(rt, alloc, file.1);
+    let _is_whole = is_saved_whole(rt, alloc, &store, file.2, &(file.0, true, 1, 0));
+    let fake = Fake::new(Vec::new(alloc), 0, 0);
+    let (outcome, failures, fake) = save(alloc, file.0, true, &store, fake);
+    let end = (end_of(&outcome), failures, fake.calls, fake.inner.len());
+    if !file.2.is_empty() {
+        is_equal(rt, &end, &("a failed call", 1, 1, 0), &file.0);
+    }
+}
+
 #[test]
 fn a_failed_write_stops_the_saving(rt: HostRuntime) {
-    let store = store_of(&rt, rt.alloc(), &RECEIVED);
-    for case in &CASES {
-        for most in &[1, 3, usize::MAX] {
-            each_write_fails(&rt, rt.alloc(), &store, case, &Selection::All, *most);
-            each_write_fails(
-                &rt,
-                rt.alloc(),
-                &store,
-                case,
-                &Selection::At(new_year()),
-                *most,
-            );
+    for file in &FILES {
+        little_is_taken(&rt, rt.alloc(), file);
+        for most in [7, usize::MAX] {
+            each_write_fails(&rt, rt.alloc(), file, true, most);
+            each_write_fails(&rt, rt.alloc(), file, false, most);
         }
     }
 }
 
-fn nothing_is_taken(
-    rt: &impl Abort,
-    alloc: Global,
-    store: &CookieStore,
-    shape: Shape,
-    which: &Selection,
-) {
-    let fake = Fake::new(Vec::new(alloc), 0, 0);
-    let (outcome, failures, fake) = save(alloc, shape, store, which, fake);
-    let end = (end_of(&outcome), failures, fake.calls, fake.inner.len());
-    is_equal(rt, &end, &("a device", 1, 1, 0), &(shape, which));
-}
-
-#[test]
-fn a_writer_that_takes_nothing_has_failed(rt: HostRuntime) {
-    let store = store_of(&rt, rt.alloc(), &RECEIVED);
-    for (shape, _) in &CASES {
-        nothing_is_taken(&rt, rt.alloc(), &store, *shape, &Selection::All);
-        nothing_is_taken(&rt, rt.alloc(), &store, *shape, &Selection::At(new_year()));
+fn count_of(outcome: &Result<CookieStore, FormatError>) -> usize {
+    match outcome {
+        Ok(store) => store.len(),
+        Err(_) => 0,
     }
 }
 
-// Checks that both loadings had the same outcome and the same cookies.
-fn have_same_outcome(
-    rt: &impl Abort,
-    outcome: &Result<CookieStore, Error>,
-    wanted: &Result<CookieStore, Error>,
-    row: &Failing<'_>,
-) {
-    is_equal(rt, &end_of(outcome), &end_of(wanted), row);
-    if let (Ok(store), Ok(same)) = (outcome, wanted) {
-        has_the_same_rows(rt, store, same);
-    }
-}
-
-// Checks that loading from the reader again, without failures, has the wanted outcome.
-fn is_loaded_so(
+// How many cookies are loaded, how the loading ended, and how many reads failed.
+fn counts(
     rt: &impl Abort,
     alloc: Global,
     url: &Url,
-    row: &Failing<'_>,
+    row: &Failing,
     fake: Fake<&[u8]>,
-    wanted: &Result<CookieStore, Error>,
-) {
-    let (outcome, failures, _) = load(alloc, row.0, url, row.1, fake);
-    is_equal(rt, &failures, &0, row);
-    have_same_outcome(rt, &outcome, wanted, row);
-}
-
-// The outcome of loading the bytes without failures.
-fn outcome_of(
-    alloc: Global,
-    url: &Url,
-    row: &Failing<'_>,
-    bytes: &[u8],
-) -> Result<CookieStore, Error> {
-    load(alloc, row.0, url, row.1, Fake::new(bytes, usize::MAX, 0)).0
+) -> (usize, &'static str, u64) {
+    let (outcome, failures, _) = load(rt, alloc, row.0, row.1, url, fake);
+    (count_of(&outcome), end_of(&outcome), failures)
 }
 
 // Checks that the failed read took nothing: the reader has the bytes not read before, and they load
@@ -163,64 +137,45 @@ fn is_rest_loaded(
     alloc: Global,
     url: &Url,
     text: &str,
-    row: &Failing<'_>,
+    row: &Failing,
     fake: Fake<&[u8]>,
 ) {
     let taken = row.3.saturating_sub(1).saturating_mul(row.2);
-    let unread = text.as_bytes().get(taken.min(text.len())..);
-    is_equal(rt, &Some(fake.inner), &unread, row);
-    let wanted = outcome_of(alloc, url, row, fake.inner);
-    is_loaded_so(rt, alloc, url, row, fake, &wanted);
+    let unread = fake.inner;
+    let wanted = text.as_bytes().get(taken.min(text.len())..);
+    is_equal(rt, &Some(unread), &wanted, row);
+    let rest = counts(rt, alloc, url, row, fake);
+    let wanted = counts(rt, alloc, url, row, Fake::new(unread, usize::MAX, 0));
+    is_equal(rt, &rest, &wanted, row);
 }
 
-// Checks that all is loaded, or that a read failed once and was not retried, and that the rest
-// loads. Returns whether all was loaded at once.
-fn is_loaded_whole(
-    rt: &impl Abort,
-    alloc: Global,
-    store: &CookieStore,
-    url: &Url,
-    text: &str,
-    row: &Failing<'_>,
-) -> bool {
-    let fake = Fake::new(text.as_bytes(), row.2, row.3);
-    let (outcome, failures, fake) = load(alloc, row.0, url, row.1, fake);
-    match &outcome {
-        Ok(loaded) => {
-            is_equal(rt, &failures, &0, row);
-            has_the_same_rows(rt, loaded, store);
-        }
-        Err(_) => {
-            let end = (end_of(&outcome), failures, fake.calls);
-            is_equal(rt, &end, &("a device", 1, row.3), row);
-            is_rest_loaded(rt, alloc, url, text, row, fake);
-        }
+// Checks that all is loaded as by one read, or that a read failed once and was not retried, and
+// that the rest loads. Returns whether all was loaded at once.
+fn is_loaded_whole(rt: &impl Abort, alloc: Global, url: &Url, text: &str, row: &Failing) -> bool {
+    let bytes = text.as_bytes();
+    let fake = Fake::new(bytes, row.2, row.3);
+    let (outcome, failures, fake) = load(rt, alloc, row.0, row.1, url, fake);
+    let is_whole = failures == 0;
+    if is_whole {
+        let wanted = counts(rt, alloc, url, row, Fake::new(bytes, usize::MAX, 0));
+        let loaded = (count_of(&outcome), end_of(&outcome), failures);
+        is_equal(rt, &loaded, &wanted, row);
+    } else {
+        let end = (end_of(&outcome), failures, fake.calls);
+        is_equal(rt, &end, &("a failed call", 1, row.3), row);
+        is_rest_loaded(rt, alloc, url, text, row, fake);
     }
-    outcome.is_ok()
+    is_whole
 }
 
-// The store that is loaded: of all cookies that were saved, without what a `cookies.txt` file does not
-// say of them.
-fn store_loaded(rt: &impl Abort, alloc: Global, case: &Case) -> CookieStore {
-    match case.0 {
-        Shape::Netscape => loaded(rt, alloc, case.0, FROM, &Selection::All, case.1),
-        _ => store_of(rt, alloc, &RECEIVED),
-    }
-}
-
-// Loads with each read failing in turn, and at last without a failure.
-fn each_read_fails(rt: &impl Abort, alloc: Global, case: &Case, which: &Selection, most: usize) {
+// Loads by reads of one byte; then with each read failing in turn, and at last without a failure.
+fn each_read_fails(rt: &impl Abort, alloc: Global, file: &File, all: bool, most: usize) {
     let url = url(rt, alloc, FROM);
-    let store = &store_loaded(rt, alloc, case);
+    let text = text_in(file, all);
+    let _is_whole = is_loaded_whole(rt, alloc, &url, text, &(file.0, all, 1, 0));
     for fails_at in 1..1_000 {
-        if is_loaded_whole(
-            rt,
-            alloc,
-            store,
-            &url,
-            case.1,
-            &(case.0, which, most, fails_at),
-        ) {
+        let row = (file.0, all, most, fails_at);
+        if is_loaded_whole(rt, alloc, &url, text, &row) {
             return;
         }
     }
@@ -229,10 +184,10 @@ fn each_read_fails(rt: &impl Abort, alloc: Global, case: &Case, which: &Selectio
 
 #[test]
 fn a_failed_read_stops_the_loading(rt: HostRuntime) {
-    for case in &CASES {
-        for most in &[1, 3, usize::MAX] {
-            each_read_fails(&rt, rt.alloc(), case, &Selection::All, *most);
-            each_read_fails(&rt, rt.alloc(), case, &Selection::At(new_year()), *most);
+    for file in &FILES {
+        for most in [7, usize::MAX] {
+            each_read_fails(&rt, rt.alloc(), file, true, most);
+            each_read_fails(&rt, rt.alloc(), file, false, most);
         }
     }
 }

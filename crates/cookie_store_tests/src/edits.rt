@@ -1,9 +1,10 @@
 //! Edits of `cookies.txt` files.
 use crate::allocations::{end, start};
-use crate::built::{UrlAndValue, cookie, store_of};
-use crate::checks::is_equal;
+use crate::built::UrlAndValue;
+use crate::checks::{is_equal, is_text};
 use cookie_store::edit::{put_line, retain_lines};
 use cookie_store::netscape::NetscapeError;
+use cookie_store::{Cookie, CookieStore};
 use std::alloc::{AllocError, Global};
 use std::process::Abort;
 
@@ -15,7 +16,8 @@ type Put = (
 );
 
 static PUT: [Put; 5] = [
-    // A new cookie comes last. A last line gets the line end that it lacks, which is that of the first.
+    // A new cookie comes last. A last line gets the line end that it lacks, which is that of the
+    // first.
     (
         "",
         ("http://a.com/", "a=1"),
@@ -45,23 +47,21 @@ static PUT: [Put; 5] = [
     ),
 ];
 
-// Puts the line, and checks the file, the error, or that memory ran out.
-fn is_put(rt: &impl Abort, alloc: Global, put: &Put, ample: bool) {
-    let cookie = cookie(rt, alloc, &put.1);
+// Puts the line, and checks the file, the error, or that an allocation failed.
+pub fn is_put(
+    rt: &impl Abort,
+    alloc: Global,
+    file: &str,
+    cookie: &Cookie<'static>,
+    wanted: Result<&str, NetscapeError>,
+) {
     start(alloc);
-    let outcome = put_line(alloc, put.0, &cookie);
-    end(alloc);
+    let outcome = put_line(alloc, file, cookie);
+    let is_ample = end(alloc);
     match outcome {
-        Ok(edited) => is_equal(rt, &Ok(edited.as_str()), &put.2, &put.0),
-        Err(NetscapeError::Memory) => is_equal(rt, &ample, &false, &put.0),
-        Err(error) => is_equal(rt, &Err(error), &put.2, &put.0),
-    }
-}
-
-#[test]
-fn a_line_is_put(rt: HostRuntime) {
-    for put in &PUT {
-        is_put(&rt, rt.alloc(), put, true);
+        Ok(edited) => is_text(rt, edited.as_str(), wanted.unwrap_or(""), &"the file"),
+        Err(NetscapeError::Memory) => is_equal(rt, &is_ample, &false, &cookie.name()),
+        Err(error) => is_equal(rt, &Err(error), &wanted, &cookie.name()),
     }
 }
 
@@ -77,39 +77,34 @@ static RETAINED: [Retained; 2] = [
     ),
 ];
 
-// Removes the lines, and checks the file, or that memory ran out.
-fn is_retained(rt: &impl Abort, alloc: Global, retained: &Retained, ample: bool) {
-    let store = store_of(rt, alloc, retained.1);
+// Removes the lines, and checks the file, or that an allocation failed.
+pub fn is_retained(rt: &impl Abort, alloc: Global, file: &str, store: &CookieStore, wanted: &str) {
     start(alloc);
-    let outcome = retain_lines(alloc, retained.0, &store);
-    end(alloc);
+    let outcome = retain_lines(alloc, file, store);
+    let is_ample = end(alloc);
     match outcome {
-        Ok(edited) => is_equal(rt, &edited.as_str(), &retained.2, &retained.0),
-        Err(AllocError) => is_equal(rt, &ample, &false, &retained.0),
-    }
-}
-
-#[test]
-fn lines_are_retained(rt: HostRuntime) {
-    for retained in &RETAINED {
-        is_retained(&rt, rt.alloc(), retained, true);
+        Ok(edited) => is_text(rt, edited.as_str(), wanted, &"the file"),
+        Err(AllocError) => is_equal(rt, &is_ample, &false, &"the file"),
     }
 }
 
 mod allocations {
     use super::{PUT, RETAINED, is_put, is_retained};
+    use crate::built::{cookie, store_of};
 
     #[test]
-    fn put_line(rt: HostRuntime) {
-        for put in &PUT {
-            is_put(&rt, rt.alloc(), put, false);
+    fn a_line_is_put(rt: HostRuntime) {
+        for (file, came, wanted) in &PUT {
+            let cookie = cookie(&rt, rt.alloc(), came);
+            is_put(&rt, rt.alloc(), file, &cookie, *wanted);
         }
     }
 
     #[test]
-    fn retain_lines(rt: HostRuntime) {
-        for retained in &RETAINED {
-            is_retained(&rt, rt.alloc(), retained, false);
+    fn lines_are_retained(rt: HostRuntime) {
+        for (file, came, wanted) in &RETAINED {
+            let store = store_of(&rt, rt.alloc(), came);
+            is_retained(&rt, rt.alloc(), file, &store, wanted);
         }
     }
 }

@@ -1,181 +1,331 @@
-//! Cookies saved and loaded in each format.
-use crate::built::{UrlAndValue, store_of};
-use crate::checks::is_equal;
+//! Saving and loading in each format.
+ghost use Rattle.std.specs.Prelude.{◌-◌, ◌^◌, ◌<◌};
+
+use crate::checks::{is_equal, is_text};
+use crate::steps::new_year;
 use cookie_fakes::Fake;
-use cookie_store::device::Counted;
-use cookie_store::serde::{self, Format, FormatError, Which};
-use cookie_store::{CookieStore, Error};
-use jiff::civil::{DateTime, date};
-use std::alloc::Global;
+use cookie_store::device::{Counted, Sink, Source};
+use cookie_store::serde::{
+    self, Format, FormatError, MigrateError, Which, json, migrate_lines, netscape, ron,
+};
+use cookie_store::{Bulk, Cookie, CookieStore, Error};
+use std::alloc::{AllocError, Global};
 use std::process::Abort;
+use url::Url;
 
-// A session cookie, one that expires in June, and a persistent one.
-static RECEIVED: [UrlAndValue; 3] = [
-    ("http://a.com/", "s=1"),
-    (
-        "http://a.com/",
-        "x=1; Expires=Mon, 01 Jun 2026 00:00:00 GMT",
-    ),
-    (
-        "http://a.com/",
-        "p=1; Expires=Fri, 01 Jan 2027 00:00:00 GMT",
-    ),
-];
-
-// A format, a number of `selection`, and the names of the cookies that this selects.
-type Row = (Format, u8, &'static str);
-
-static ROWS: [Row; 9] = [
-    (Format::Json, 0, "p"),
-    (Format::Json, 1, "sp"),
-    (Format::Json, 2, "sxp"),
-    (Format::Ron, 0, "p"),
-    (Format::Ron, 1, "sp"),
-    (Format::Ron, 2, "sxp"),
-    (Format::Netscape, 0, "p"),
-    (Format::Netscape, 1, "sp"),
-    (Format::Netscape, 2, "sxp"),
-];
-
-fn july() -> DateTime {
-    date(2026, 7, 1).at(0, 0, 0, 0)
+// The format: lines or one string by functions of the tests, lines of JSON, such lines as they are
+// migrated, or a file.
+#[derive(Clone, Copy, Debug)]
+pub enum Shape {
+    Values,
+    Pairs,
+    JsonLines,
+    Migrated,
+    File(Form),
 }
 
-fn selection(number: u8) -> Which {
-    match number {
-        0 => Which::Persistent(july()),
-        1 => Which::Unexpired(july()),
-        _ => Which::All,
+// A list in JSON or RON, a `cookies.txt` file, its representable cookies or well-formed lines, or
+// one of these by the calls that take a format.
+#[derive(Clone, Copy, Debug)]
+pub enum Form {
+    Json,
+    Ron,
+    Netscape,
+    WellFormed,
+    As(Format),
+}
+
+// The cookies that are saved: all, or the persistent ones.
+fn saved(all: bool) -> Which {
+    if all {
+        Which::All
+    } else {
+        Which::Persistent(new_year())
     }
 }
 
-// Checks the names of the cookies, or that memory ran out.
-fn has_names(
-    rt: &impl Abort,
-    outcome: &Result<CookieStore, FormatError>,
-    row: &Row,
-    is_ample: bool,
-) {
-    match outcome {
-        Ok(store) => is_equal(rt, &names_of(rt, store).as_str(), &row.2, row),
-        Err(error) => is_equal(
-            rt,
-            &(error, is_ample),
-            &(&FormatError::Store(Error::Memory), false),
-            row,
+// The cookies that are loaded: all, or the unexpired ones.
+fn loaded(all: bool) -> Which {
+    if all {
+        Which::All
+    } else {
+        Which::Unexpired(new_year())
+    }
+}
+
+// The `Set-Cookie` value of the cookie.
+fn value_of(alloc: Global, row: &Cookie<'_>) -> Result<String, Error> {
+    Ok(row.raw().to_text(alloc)?)
+}
+
+fn push_pair(pairs: &mut String, cookie: &Cookie<'_>) -> Result<(), AllocError> {
+    pairs.push_str(cookie.name())?;
+    pairs.push('=')?;
+    pairs.push_str(cookie.value())?;
+    pairs.push('|')
+}
+
+// The names and values of the cookies.
+fn pairs_of(alloc: Global, cookies: &Vec<Cookie<'_>>) -> Result<String, Error> {
+    let mut pairs = String::new(alloc);
+    for cookie in cookies {
+        push_pair(&mut pairs, cookie)?;
+    }
+    Ok(pairs)
+}
+
+// By functions of the tests, or as lines of JSON.
+fn save_lines<W: Sink>(
+    alloc: Global,
+    shape: Shape,
+    all: bool,
+    store: &CookieStore,
+    writer: &mut W,
+) -> Result<(), Error>
+    requires { (W.state writer.old).failed < 2 ^ 64 - 1 }
+{
+    let now = new_year();
+    match (shape, all) {
+        (Shape::Values, true) => {
+            store.save_incl_expired_and_nonpersistent(writer, |row| value_of(alloc, row))
+        }
+        (Shape::Values, false) => store.save(writer, |row| value_of(alloc, row), now),
+        (Shape::Pairs, true) => serde::save_incl_expired_and_nonpersistent(
+            store,
+            writer,
+            |cookies| pairs_of(alloc, cookies),
         ),
+        (Shape::Pairs, false) => {
+            serde::save(store, writer, |cookies| pairs_of(alloc, cookies), now)
+        }
+        (_, true) => store.save_incl_expired_and_nonpersistent_json(writer),
+        (_, false) => store.save_json(writer, now),
     }
 }
 
-fn names_of(rt: &impl Abort, store: &CookieStore) -> String {
-    let mut names = String::new(store.allocator());
-    for cookie in store.iter_any() {
-        names.push_str(cookie.name()).expect(rt, "memory");
-    }
-    names
-}
-
-// Saves the selected cookies as a string, which is loaded whole.
-fn saved(alloc: Global, store: &CookieStore, row: &Row) -> Result<CookieStore, FormatError> {
-    let text = serde::to_text_as(store, row.0, selection(row.1))?;
-    serde::from_text_as(alloc, text.as_str(), row.0, Which::All)
-}
-
-// Saves all cookies as a string, of which the selected ones are loaded.
-fn loaded(alloc: Global, store: &CookieStore, row: &Row) -> Result<CookieStore, FormatError> {
-    let text = serde::to_text_as(store, row.0, Which::All)?;
-    serde::from_text_as(alloc, text.as_str(), row.0, selection(row.1))
-}
-
-// Saves the selected cookies by a writer.
-fn written(alloc: Global, store: &CookieStore, row: &Row) -> Result<Vec<u8>, FormatError> {
-    let mut writer = Counted::new(Fake::new(Vec::new(alloc), 7, 0));
-    serde::save_as(store, &mut writer, row.0, selection(row.1))?;
-    Ok(writer.into_inner().inner)
-}
-
-// Loads all cookies by a reader.
-fn read(alloc: Global, bytes: &[u8], format: Format) -> Result<CookieStore, FormatError> {
-    let mut reader = Counted::new(Fake::new(bytes, 7, 0));
-    serde::load_as(alloc, &mut reader, format, Which::All)
-}
-
-#[test]
-fn the_selected_cookies_are_saved_and_loaded(rt: HostRuntime) {
-    let store = store_of(&rt, rt.alloc(), &RECEIVED);
-    for row in &ROWS {
-        has_names(&rt, &saved(rt.alloc(), &store, row), row, true);
-        has_names(&rt, &loaded(rt.alloc(), &store, row), row, true);
+fn save_file<W: Sink>(
+    form: Form,
+    all: bool,
+    store: &CookieStore,
+    writer: &mut W,
+) -> Result<(), FormatError>
+    requires { (W.state writer.old).failed < 2 ^ 64 - 1 }
+{
+    let now = new_year();
+    match (form, all) {
+        (Form::Json, true) => Ok(json::save_incl_expired_and_nonpersistent(store, writer)?),
+        (Form::Json, false) => Ok(json::save(store, writer, now)?),
+        (Form::Ron, true) => Ok(ron::save_incl_expired_and_nonpersistent(store, writer)?),
+        (Form::Ron, false) => Ok(ron::save(store, writer, now)?),
+        (Form::Netscape, true) => {
+            Ok(netscape::save_incl_expired_and_nonpersistent(store, writer)?)
+        }
+        (Form::Netscape, false) => Ok(netscape::save(store, writer, now)?),
+        (Form::WellFormed, _) => {
+            let _left_out = netscape::save_representable(store, writer, saved(all))?;
+            Ok(())
+        }
+        (Form::As(format), _) => serde::save_as(store, writer, format, saved(all)),
     }
 }
 
-#[test]
-fn the_selected_cookies_are_written_and_read(rt: HostRuntime) {
-    let store = store_of(&rt, rt.alloc(), &RECEIVED);
-    for row in &ROWS {
-        let bytes = written(rt.alloc(), &store, row).expect(&rt, "memory");
-        has_names(&rt, &read(rt.alloc(), &bytes, row.0), row, true);
+// The result of saving, how many writes failed, and the writer.
+pub type Saved = (Result<(), FormatError>, u64, Fake<Vec<u8>>);
+
+// Saves the cookies in the format: all, or the persistent ones at the new year.
+pub fn save(
+    alloc: Global,
+    shape: Shape,
+    all: bool,
+    store: &CookieStore,
+    fake: Fake<Vec<u8>>,
+) -> Saved {
+    let mut writer = Counted::new(fake);
+    let outcome = match shape {
+        Shape::File(form) => save_file(form, all, store, &mut writer),
+        _ => save_lines(alloc, shape, all, store, &mut writer).map_err(FormatError::Store),
+    };
+    (outcome, writer.failures(), writer.into_inner())
+}
+
+// The cookie of a line, as received from the URL.
+pub fn cookie_of<'l>(alloc: Global, line: &'l str, url: &Url) -> Result<Cookie<'l>, Error> {
+    Ok(Cookie::parse(alloc, line, url, new_year())?)
+}
+
+// The cookies of pairs, as received from the URL.
+fn cookies_of<'t>(alloc: Global, text: &'t str, url: &Url) -> Result<Vec<Cookie<'t>>, Error> {
+    let mut cookies = Vec::new(alloc);
+    for pair in text.trim_end().split('|') {
+        if !pair.is_empty() {
+            cookies.push(cookie_of(alloc, pair, url)?)?;
+        }
+    }
+    Ok(cookies)
+}
+
+fn load_lines<R: Source>(
+    alloc: Global,
+    shape: Shape,
+    all: bool,
+    url: &Url,
+    reader: &mut R,
+) -> Result<CookieStore, Error>
+    requires { (R.state reader.old).failed < 2 ^ 64 - 1 }
+{
+    let now = new_year();
+    match (shape, all) {
+        (Shape::Values, true) => {
+            CookieStore::load_all(alloc, reader, |line| cookie_of(alloc, line, url), now)
+        }
+        (Shape::Values, false) => {
+            CookieStore::load(alloc, reader, |line| cookie_of(alloc, line, url), now)
+        }
+        (Shape::Pairs, true) => {
+            serde::load_all(alloc, reader, |text| cookies_of(alloc, text, url), now)
+        }
+        (Shape::Pairs, false) => {
+            serde::load(alloc, reader, |text| cookies_of(alloc, text, url), now)
+        }
+        (_, true) => CookieStore::load_json_all(alloc, reader, now),
+        (_, false) => CookieStore::load_json(alloc, reader, now),
     }
 }
 
-// A format, what is not one of its files, and the error as `Display` prints it.
-static REJECTED: [(Format, &str, &str); 4] = [
-    (Format::Json, "a", "the input is not JSON"),
-    (Format::Ron, "a", "the input is not a list in RON"),
-    (Format::Netscape, "# a\na\n", "line 2 is not a cookie"),
-    (Format::Netscape, "\u{feff}\n", "line 1 is not a cookie"),
-];
-
-#[test]
-fn other_files_are_rejected(rt: HostRuntime) {
-    for row in &REJECTED {
-        let outcome = serde::from_text_as(rt.alloc(), row.1, row.0, Which::All);
-        is_message(&rt, rt.alloc(), &outcome, row);
+fn load_file<R: Source>(
+    alloc: Global,
+    form: Form,
+    all: bool,
+    reader: &mut R,
+) -> Result<CookieStore, FormatError>
+    requires { (R.state reader.old).failed < 2 ^ 64 - 1 }
+{
+    let now = new_year();
+    match (form, all) {
+        (Form::Json, true) => Ok(json::load_all(alloc, reader, now)?),
+        (Form::Json, false) => Ok(json::load(alloc, reader, now)?),
+        (Form::Ron, true) => Ok(ron::load_all(alloc, reader, now)?),
+        (Form::Ron, false) => Ok(ron::load(alloc, reader, now)?),
+        (Form::Netscape, true) => Ok(netscape::load_all(alloc, reader, now)?),
+        (Form::Netscape, false) => Ok(netscape::load(alloc, reader, now)?),
+        (Form::WellFormed, _) => {
+            Ok(netscape::load_well_formed(alloc, reader, loaded(all))?.store)
+        }
+        (Form::As(format), _) => serde::load_as(alloc, reader, format, loaded(all)),
     }
 }
 
-fn is_message(
+// The error with the number of the line is one of the tests.
+fn migrate<R: Source>(
     rt: &impl Abort,
     alloc: Global,
-    outcome: &Result<CookieStore, FormatError>,
-    row: &(Format, &str, &str),
-) {
-    let text = match outcome {
-        Ok(_) => String::new(alloc),
-        Err(error) => error.to_string(alloc).expect(rt, "memory"),
-    };
-    is_equal(rt, &text.as_str(), &row.2, row);
+    reader: &mut R,
+) -> Result<CookieStore, FormatError>
+    requires { (R.state reader.old).failed < 2 ^ 64 - 1 }
+{
+    match migrate_lines(alloc, reader) {
+        Ok(store) => Ok(store),
+        Err(MigrateError::Io) => Err(FormatError::Store(Error::Io)),
+        Err(MigrateError::Memory) => Err(FormatError::Store(Error::Memory)),
+        Err(error) => {
+            let text = error.to_string(alloc).expect(rt, "memory");
+            Err(FormatError::Store(Error::Other(text)))
+        }
+    }
 }
 
-mod allocations {
-    use super::{RECEIVED, ROWS, has_names, loaded, read, saved, written};
-    use crate::allocations::{end, start};
-    use crate::built::store_of;
+// The result of loading, how many reads failed, and the reader.
+pub type Loaded<'a> = (Result<CookieStore, FormatError>, u64, Fake<&'a [u8]>);
 
-    #[test]
-    fn text_as(rt: HostRuntime) {
-        let store = store_of(&rt, rt.alloc(), &RECEIVED);
-        for row in &ROWS {
-            start(rt.alloc());
-            let outcomes = (
-                saved(rt.alloc(), &store, row),
-                loaded(rt.alloc(), &store, row),
-            );
-            end(rt.alloc());
-            has_names(&rt, &outcomes.0, row, false);
-            has_names(&rt, &outcomes.1, row, false);
-        }
-    }
+// Loads the cookies in the format: all, or the unexpired ones at the new year. Functions of the
+// tests parse them as received from the URL.
+pub fn load<'a>(
+    rt: &impl Abort,
+    alloc: Global,
+    shape: Shape,
+    all: bool,
+    url: &Url,
+    fake: Fake<&'a [u8]>,
+) -> Loaded<'a> {
+    let mut reader = Counted::new(fake);
+    let outcome = match shape {
+        Shape::File(form) => load_file(alloc, form, all, &mut reader),
+        Shape::Migrated => migrate(rt, alloc, &mut reader),
+        _ => load_lines(alloc, shape, all, url, &mut reader).map_err(FormatError::Store),
+    };
+    (outcome, reader.failures(), reader.into_inner())
+}
 
-    #[test]
-    fn load_as(rt: HostRuntime) {
-        let store = store_of(&rt, rt.alloc(), &RECEIVED);
-        for row in &ROWS {
-            let bytes = written(rt.alloc(), &store, row).expect(&rt, "memory");
-            start(rt.alloc());
-            let outcome = read(rt.alloc(), &bytes, row.0);
-            end(rt.alloc());
-            has_names(&rt, &outcome, row, false);
-        }
+// The cookies as a string, without the line feed at its end.
+pub fn to_text(form: Form, all: bool, store: &CookieStore) -> Result<String, FormatError> {
+    let now = new_year();
+    match (form, all) {
+        (Form::Json, true) => Ok(json::to_text_incl_expired_and_nonpersistent(store)?),
+        (Form::Json, false) => Ok(json::to_text(store, now)?),
+        (Form::Ron, true) => Ok(ron::to_text_incl_expired_and_nonpersistent(store)?),
+        (Form::Ron, false) => Ok(ron::to_text(store, now)?),
+        (Form::Netscape, true) => { Ok(netscape::to_text_incl_expired_and_nonpersistent(store)?) }
+        (Form::Netscape, false) => Ok(netscape::to_text(store, now)?),
+        (Form::WellFormed, _) => representable(store, all),
+        (Form::As(format), _) => serde::to_text_as(store, format, saved(all)),
     }
+}
+
+fn representable(store: &CookieStore, all: bool) -> Result<String, FormatError> {
+    match netscape::to_text_representable(store, saved(all)) {
+        Ok(file) => Ok(file.text),
+        Err(AllocError) => Err(FormatError::Store(Error::Memory)),
+    }
+}
+
+// The store of the cookies of a string.
+pub fn from_text(
+    alloc: Global,
+    form: Form,
+    all: bool,
+    text: &str,
+) -> Result<CookieStore, FormatError> {
+    let now = new_year();
+    match (form, all) {
+        (Form::Json, true) => Ok(json::from_text_all(alloc, text, now)?),
+        (Form::Json, false) => Ok(json::from_text(alloc, text, now)?),
+        (Form::Ron, true) => Ok(ron::from_text_all(alloc, text, now)?),
+        (Form::Ron, false) => Ok(ron::from_text(alloc, text, now)?),
+        (Form::Netscape, true) => Ok(netscape::from_text_all(alloc, text, now)?),
+        (Form::Netscape, false) => Ok(netscape::from_text(alloc, text, now)?),
+        (Form::WellFormed, _) => well_formed(alloc, text, all),
+        (Form::As(format), _) => serde::from_text_as(alloc, text, format, loaded(all)),
+    }
+}
+
+fn well_formed(alloc: Global, text: &str, all: bool) -> Result<CookieStore, FormatError> {
+    match netscape::from_text_well_formed(alloc, text, loaded(all)) {
+        Ok(loaded) => Ok(loaded.store),
+        Err(AllocError) => Err(FormatError::Store(Error::Memory)),
+    }
+}
+
+// How saving or loading ended.
+pub fn end_of<T>(outcome: &Result<T, FormatError>) -> &'static str {
+    match outcome {
+        Ok(_) => "done",
+        Err(FormatError::Store(Error::Memory)) => "out of memory",
+        Err(FormatError::Store(Error::Io)) => "a failed call",
+        Err(_) => "another error",
+    }
+}
+
+// Checks what all cookies of the store are saved as.
+pub fn is_saved_as(
+    rt: &impl Abort,
+    alloc: Global,
+    shape: Shape,
+    store: &CookieStore,
+    wanted: &str,
+) {
+    let fake = Fake::new(Vec::new(alloc), usize::MAX, 0);
+    let (outcome, _, fake) = save(alloc, shape, true, store, fake);
+    is_equal(rt, &end_of(&outcome), &"done", &shape);
+    let text = str::from_utf8(fake.inner.as_slice()).expect(rt, "UTF-8");
+    is_text(rt, text, wanted, &shape);
 }

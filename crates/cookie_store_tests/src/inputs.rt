@@ -82,26 +82,21 @@ static FILES: [(&str, Option<SuffixesError>); 10] = [
     ("a=b\n..\n", Some(SuffixesError::BadRule { line: 1 })),
 ];
 
-#[test]
-fn files_without_rules_are_no_lists(rt: HostRuntime) {
-    for row in &FILES {
-        let result = parse_suffixes(rt.alloc(), row.0, false);
-        is_equal(&rt, &result.err(), &row.1, row);
-    }
-}
-
-// Whether only the listed suffixes count, and whether `np` is one then.
-static DEFAULT_RULE: [(bool, bool); 2] = [(false, true), (true, false)];
-
-fn is_known(rt: &impl Abort, alloc: Global, only_listed: bool) -> bool {
+// Whether a rule matches `np`, with the rules of a list that has another one.
+fn is_known(rt: &impl Abort, alloc: Global, only_listed: bool, wanted: bool) {
     let list = parse_suffixes(alloc, "*.np\n", only_listed).expect(rt, "a list");
-    list.suffix("np")
-        .is_some_and(|suffix: Suffix<'_>| suffix.is_known())
+    let is_known = list
+        .suffix("np")
+        .is_some_and(|suffix: Suffix<'_>| suffix.is_known());
+    is_equal(rt, &is_known, &wanted, &only_listed);
 }
 
 #[test]
-fn the_rule_of_all_top_level_domains_is_added(rt: HostRuntime) {
-    for row in &DEFAULT_RULE {
-        is_equal(&rt, &is_known(&rt, rt.alloc(), row.0), &row.1, row);
+fn files_are_lists_of_suffixes(rt: HostRuntime) {
+    for row in &FILES {
+        let outcome = parse_suffixes(rt.alloc(), row.0, false);
+        is_equal(&rt, &outcome.err(), &row.1, row);
     }
+    is_known(&rt, rt.alloc(), false, true);
+    is_known(&rt, rt.alloc(), true, false);
 }

@@ -1,8 +1,9 @@
 //! Cookies of one store that are merged into another.
 use crate::checks::is_equal;
+use crate::formats::{Form, from_text};
 use crate::steps::{INSERTED, Step, new_year, store_under, take_all};
 use crate::texts::are_listed;
-use cookie_store::{CookieStore, serde, strict};
+use cookie_store::{CookieStore, strict};
 use std::alloc::{AllocError, Global};
 use std::process::Abort;
 
@@ -34,22 +35,19 @@ pub fn merged(
     }
 }
 
-fn file(rt: &impl Abort, alloc: Global) -> CookieStore {
-    serde::netscape::from_text_all(alloc, FILE, new_year()).expect(rt, "a file")
-}
-
-fn merges(rt: &impl Abort, alloc: Global, merge: &Merge) {
+fn is_merged(rt: &impl Abort, alloc: Global, other: &CookieStore, merge: &Merge) {
     let (is_strict, left_out, wanted) = *merge;
     let mut store = store_under(rt, alloc, "com\n");
     take_all(rt, alloc, &mut store, &STORED, new_year());
-    let counted = merged(&mut store, &file(rt, alloc), is_strict).expect(rt, "memory");
+    let counted = merged(&mut store, other, is_strict).expect(rt, "memory");
     is_equal(rt, &counted, &left_out, merge);
     are_listed(rt, alloc, &store, wanted, merge);
 }
 
 #[test]
 fn cookies_are_merged_by_the_rules_of_the_store(rt: HostRuntime) {
+    let other = from_text(rt.alloc(), Form::Netscape, true, FILE).expect(&rt, "a file");
     for merge in &MERGES {
-        merges(&rt, rt.alloc(), merge);
+        is_merged(&rt, rt.alloc(), &other, merge);
     }
 }

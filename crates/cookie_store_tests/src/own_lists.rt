@@ -1,198 +1,94 @@
 //! Positions of cookies that are found in lists of the caller's own.
+use crate::built::cookie;
 use crate::checks::is_equal;
 use crate::list_search::{DomainCookies, Group, PathCookies, positions_of};
 use crate::steps::new_year;
 use crate::texts::url;
 use cookie_store::Cookie;
-use jiff::civil::{DateTime, date};
 use std::alloc::Global;
 use std::process::Abort;
 
-// A path, and the Set-Cookie headers of its cookies.
+// A path, and the `Set-Cookie` values of its cookies.
 #[derive(Clone, Copy)]
 struct Path {
     path: &'static str,
-    headers: &'static [&'static str],
+    values: &'static [&'static str],
 }
 
-// A domain, and its paths.
+// A domain, a URL that it received its cookies from, and its paths.
 #[derive(Clone, Copy)]
 struct Domain {
     domain: &'static str,
+    from: &'static str,
     paths: &'static [Path],
 }
 
 static DOMAINS: [Domain; 3] = [
     Domain {
         domain: "example.com",
+        from: "http://example.com/",
         paths: &[
             Path {
                 path: "/",
-                headers: &["a=1; Path=/", "b=2; Path=/; Domain=example.com"],
+                values: &["a=1; Path=/", "b=2; Path=/; Domain=example.com"],
             },
             Path {
                 path: "/docs",
-                headers: &[
+                values: &[
                     "c=3; Path=/docs; Domain=example.com",
-                    "d=4; Path=/docs; Max-Age=60",
+                    "d=4; Path=/docs; Max-Age=0",
                 ],
             },
             Path {
                 path: "/docs/",
-                headers: &["e=5; Path=/docs/"],
+                values: &["e=5; Path=/docs/"],
             },
         ],
     },
     Domain {
         domain: "127.0.0.1",
+        from: "http://127.0.0.1/",
         paths: &[Path {
             path: "/",
-            headers: &["f=6; Path=/"],
+            values: &["f=6; Path=/"],
         }],
     },
     Domain {
         domain: "www.example.com",
+        from: "http://www.example.com/",
         paths: &[Path {
             path: "/",
-            headers: &["g=7; Path=/; Domain=www.example.com; Secure"],
+            values: &["g=7; Path=/; Domain=www.example.com; Secure"],
         }],
     },
 ];
 
-const ROOT: Path = Path {
-    path: "/",
-    headers: &["a=1; Path=/"],
-};
+// A URL, and the positions of its cookies.
+type Found = (&'static str, &'static [(usize, usize, usize)]);
 
-// Lists that are not groups, each for one reason.
-static NO_GROUPS: [&[Domain]; 6] = [
-    // a domain twice
-    &[
-        Domain {
-            domain: "a.com",
-            paths: &[ROOT],
-        },
-        Domain {
-            domain: "a.com",
-            paths: &[ROOT],
-        },
-    ],
-    // a path twice
-    &[Domain {
-        domain: "a.com",
-        paths: &[ROOT, ROOT],
-    }],
-    // another path
-    &[Domain {
-        domain: "a.com",
-        paths: &[Path {
-            path: "/x",
-            headers: &["a=1; Path=/"],
-        }],
-    }],
-    // another domain
-    &[Domain {
-        domain: "a.com",
-        paths: &[Path {
-            path: "/",
-            headers: &["a=1; Path=/; Domain=com"],
-        }],
-    }],
-    // a path without cookies
-    &[Domain {
-        domain: "a.com",
-        paths: &[Path {
-            path: "/",
-            headers: &[],
-        }],
-    }],
-    // a domain without paths
-    &[Domain {
-        domain: "a.com",
-        paths: &[],
-    }],
+static FOUND: [Found; 10] = [
+    (
+        "http://example.com/docs/x",
+        &[(0, 0, 0), (0, 0, 1), (0, 1, 0), (0, 2, 0)],
+    ),
+    (
+        "http://example.com/docs",
+        &[(0, 0, 0), (0, 0, 1), (0, 1, 0)],
+    ),
+    ("http://example.com/docsearch", &[(0, 0, 0), (0, 0, 1)]),
+    ("http://www.example.com/docs/", &[(0, 0, 1), (0, 1, 0)]),
+    ("https://www.example.com/", &[(0, 0, 1), (2, 0, 0)]),
+    ("http://127.0.0.1/x", &[(1, 0, 0)]),
+    ("http://127.0.0.2/x", &[]),
+    ("http://notexample.com/", &[]),
+    ("http://com/", &[]),
+    ("data:x", &[]),
 ];
 
-// A request, one hour after the cookies were set if it is late, and the positions of its cookies.
-#[derive(Clone, Copy)]
-struct Found {
-    from: &'static str,
-    late: bool,
-    positions: &'static [(usize, usize, usize)],
-}
-
-static FOUND: [Found; 11] = [
-    Found {
-        from: "http://example.com/docs/x",
-        late: false,
-        positions: &[(0, 0, 0), (0, 0, 1), (0, 1, 0), (0, 1, 1), (0, 2, 0)],
-    },
-    Found {
-        from: "http://example.com/docs/x",
-        late: true,
-        positions: &[(0, 0, 0), (0, 0, 1), (0, 1, 0), (0, 2, 0)],
-    },
-    Found {
-        from: "http://example.com/docs",
-        late: false,
-        positions: &[(0, 0, 0), (0, 0, 1), (0, 1, 0), (0, 1, 1)],
-    },
-    Found {
-        from: "http://example.com/docsearch",
-        late: false,
-        positions: &[(0, 0, 0), (0, 0, 1)],
-    },
-    Found {
-        from: "http://www.example.com/docs/",
-        late: false,
-        positions: &[(0, 0, 1), (0, 1, 0)],
-    },
-    Found {
-        from: "https://www.example.com/",
-        late: false,
-        positions: &[(0, 0, 1), (2, 0, 0)],
-    },
-    Found {
-        from: "http://127.0.0.1/x",
-        late: false,
-        positions: &[(1, 0, 0)],
-    },
-    Found {
-        from: "http://127.0.0.2/x",
-        late: false,
-        positions: &[],
-    },
-    Found {
-        from: "http://notexample.com/",
-        late: false,
-        positions: &[],
-    },
-    Found {
-        from: "http://com/",
-        late: false,
-        positions: &[],
-    },
-    Found {
-        from: "data:x",
-        late: false,
-        positions: &[],
-    },
-];
-
-fn time(late: bool) -> DateTime {
-    if late {
-        date(2026, 1, 1).at(1, 0, 0, 0)
-    } else {
-        new_year()
-    }
-}
-
-fn cookies(rt: &impl Abort, alloc: Global, domain: &str, headers: &[&str]) -> Vec<Cookie<'static>> {
-    let address = format!(in alloc; "http://{domain}/").expect(rt, "memory");
-    let url = url(rt, alloc, address.as_str());
+fn cookies(rt: &impl Abort, alloc: Global, from: &str, values: &[&str]) -> Vec<Cookie<'static>> {
     let mut cookies = Vec::new(alloc);
-    for header in headers {
-        let cookie = Cookie::parse_owned(alloc, header, &url, new_year()).expect(rt, "a cookie");
+    for value in values {
+        let cookie = cookie(rt, alloc, &(from, value));
         cookies.push(cookie).expect(rt, "memory");
     }
     cookies
@@ -202,7 +98,7 @@ fn paths(rt: &impl Abort, alloc: Global, listed: &Domain) -> Vec<PathCookies> {
     let mut paths = Vec::new(alloc);
     for path in listed.paths {
         let name = String::from_str(alloc, path.path).expect(rt, "memory");
-        let cookies = cookies(rt, alloc, listed.domain, path.headers);
+        let cookies = cookies(rt, alloc, listed.from, path.values);
         paths.push(Group::new(name, cookies)).expect(rt, "memory");
     }
     paths
@@ -219,10 +115,10 @@ fn domains(rt: &impl Abort, alloc: Global, listed: &[Domain]) -> Vec<DomainCooki
 }
 
 fn are_found(rt: &impl Abort, alloc: Global, groups: &[DomainCookies], wanted: &Found) {
-    let url = url(rt, alloc, wanted.from);
-    let found = positions_of(groups, alloc, &url, time(wanted.late)).expect(rt, "groups");
+    let url = url(rt, alloc, wanted.0);
+    let found = positions_of(groups, alloc, &url, new_year()).expect(rt, "groups");
     let positions = found.expect(rt, "memory");
-    is_equal(rt, &positions.as_slice(), &wanted.positions, &wanted.from);
+    is_equal(rt, &positions.as_slice(), &wanted.1, &wanted.0);
 }
 
 // By RFC 6265 5.4: host-only and domain cookies, paths, expiry, Secure, and a host that is an
@@ -232,15 +128,5 @@ fn cookies_are_found_in_lists(rt: HostRuntime) {
     let groups = domains(&rt, rt.alloc(), &DOMAINS);
     for wanted in &FOUND {
         are_found(&rt, rt.alloc(), groups.as_slice(), wanted);
-    }
-}
-
-#[test]
-fn lists_that_are_not_groups_have_no_search(rt: HostRuntime) {
-    for (at, listed) in NO_GROUPS.iter().enumerate() {
-        let groups = domains(&rt, rt.alloc(), listed);
-        let url = url(&rt, rt.alloc(), "http://a.com/");
-        let found = positions_of(groups.as_slice(), rt.alloc(), &url, new_year());
-        is_equal(&rt, &found.is_none(), &true, &at);
     }
 }

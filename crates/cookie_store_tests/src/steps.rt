@@ -39,7 +39,7 @@ pub fn store_under(rt: &impl Abort, alloc: Global, text: &str) -> CookieStore {
 }
 
 // The reply to a `Set-Cookie` value received from the URL.
-fn reply(
+pub fn reply(
     rt: &impl Abort,
     alloc: Global,
     store: &mut CookieStore,
@@ -57,15 +57,9 @@ fn take(rt: &impl Abort, alloc: Global, store: &mut CookieStore, step: &Step, no
             let reply = reply(rt, alloc, store, from, text, now);
             is_equal(rt, &reply, &wanted, step);
         }
-        Step::Listed(wanted) => {
-            are_listed(rt, alloc, store, wanted, step);
-        }
-        Step::Given(from, wanted) => {
-            are_given(rt, alloc, store, (from, wanted), now, step);
-        }
-        Step::Sent(from, wanted) => {
-            are_sent(rt, alloc, store, (from, wanted), now, step);
-        }
+        Step::Listed(wanted) => are_listed(rt, alloc, store, wanted, step),
+        Step::Given(from, wanted) => are_given(rt, alloc, store, (from, wanted), now, step),
+        Step::Sent(from, wanted) => are_sent(rt, alloc, store, (from, wanted), now, step),
     }
 }
 

@@ -22,6 +22,15 @@ pub fn parse<'a>(alloc: Global, words: &'a [String]) -> Result<Request<'a>, Fail
     let Some((verb, matches)) = matches.subcommand() else {
         return Err(Failure::from(Usage::Missing("COMMAND")));
     };
+    request(alloc, verb, matches)
+}
+
+// Returns the request of a command's name and arguments.
+fn request<'a>(
+    alloc: Global,
+    verb: &str,
+    matches: &ArgMatches<'a>,
+) -> Result<Request<'a>, Failure<'a>> {
     let now = time(matches)?;
     let command = match verb {
         "show" => show(matches)?,

@@ -12,15 +12,26 @@ const VERSION: &str = "0.1.0";
 
 /// Returns the command line of the program.
 pub fn command_line<'a>(alloc: Global) -> Result<Command<'a>, AllocError> {
-    Command::new(alloc, NAME)
+    let command = Command::new(alloc, NAME)
         .bin_name(NAME)?
         .version(VERSION)
         .about("Shows, edits and converts files of cookies")
         .after_help(AFTER_HELP)
-        .subcommand_required(true)
+        .subcommand_required(true);
+    with_writers(alloc, with_readers(alloc, command)?)
+}
+
+// Adds the commands that print.
+fn with_readers<'a>(alloc: Global, command: Command<'a>) -> Result<Command<'a>, AllocError> {
+    command
         .subcommand(show(alloc)?)?
         .subcommand(header(alloc)?)?
-        .subcommand(explain(alloc)?)?
+        .subcommand(explain(alloc)?)
+}
+
+// Adds the commands that write a file.
+fn with_writers<'a>(alloc: Global, command: Command<'a>) -> Result<Command<'a>, AllocError> {
+    command
         .subcommand(set(alloc)?)?
         .subcommand(remove(alloc)?)?
         .subcommand(purge(alloc)?)?
@@ -34,63 +45,51 @@ of browsers and Playwright export is read by --format browser and --format
 playwright. The name - is standard input or standard output.";
 
 fn show<'a>(alloc: Global) -> Result<Command<'a>, AllocError> {
-    Command::new(alloc, "show")
+    let command = Command::new(alloc, "show")
         .about("Prints a table of the cookies")
         .arg(word(alloc, "FILE", "The file of the cookies"))?
-        .arg(flag(alloc, "json", "Prints a JSON list instead"))?
-        .arg(skip_malformed(alloc))?
-        .arg(input_format(alloc, "format", "The format of FILE"))?
-        .arg(now(alloc))
+        .arg(flag(alloc, "json", "Prints a JSON list instead"))?;
+    with_input(alloc, command)
 }
 
 fn header<'a>(alloc: Global) -> Result<Command<'a>, AllocError> {
-    Command::new(alloc, "header")
+    let command = Command::new(alloc, "header")
         .about("Prints the value of the Cookie header of a request")
         .arg(word(alloc, "URL", "The URL of the request"))?
-        .arg(word(alloc, "FILE", "The file of the cookies"))?
-        .arg(suffixes(
-            alloc,
-            "Leaves out domain cookies of the public suffixes of LIST",
-        ))?
-        .arg(only_listed(alloc)?)?
-        .arg(flag(alloc, "strict", "Follows the rules of browsers"))?
-        .arg(cross_site(alloc)?)?
-        .arg(skip_malformed(alloc))?
-        .arg(input_format(alloc, "format", "The format of FILE"))?
-        .arg(now(alloc))
+        .arg(word(alloc, "FILE", "The file of the cookies"))?;
+    let help = "Leaves out domain cookies of the public suffixes of LIST";
+    let command = with_rules(alloc, command, help)?.arg(cross_site(alloc)?)?;
+    with_input(alloc, command)
 }
 
 fn explain<'a>(alloc: Global) -> Result<Command<'a>, AllocError> {
-    Command::new(alloc, "explain")
+    let file = Arg::new(alloc, "FILE")
+        .required_unless_present("set-cookie")?
+        .help("The file of the cookies");
+    let command = Command::new(alloc, "explain")
         .about("Prints why a request has a cookie or not, or a value is stored or not")
         .arg(word(alloc, "URL", "The URL of the request"))?
-        .arg(
-            Arg::new(alloc, "FILE")
-                .required_unless_present("set-cookie")?
-                .help("The file of the cookies"),
-        )?
-        .arg(
-            option(
-                alloc,
-                "set-cookie",
-                "VALUE",
-                "Explains a Set-Cookie header value received from URL instead",
-            )
-            .conflicts_with("FILE")?
-            .conflicts_with("format")?
-            .conflicts_with("skip-malformed")?,
-        )?
-        .arg(suffixes(alloc, "Follows the public suffixes of LIST"))?
-        .arg(only_listed(alloc)?)?
-        .arg(flag(alloc, "strict", "Follows the rules of browsers"))?
-        .arg(cross_site(alloc)?)?
-        .arg(skip_malformed(alloc))?
-        .arg(input_format(alloc, "format", "The format of FILE"))?
-        .arg(now(alloc))
+        .arg(file)?
+        .arg(set_cookie(alloc)?)?;
+    let help = "Follows the public suffixes of LIST";
+    let command = with_rules(alloc, command, help)?.arg(cross_site(alloc)?)?;
+    with_input(alloc, command)
+}
+
+fn set_cookie<'a>(alloc: Global) -> Result<Arg<'a>, AllocError> {
+    option(
+        alloc,
+        "set-cookie",
+        "VALUE",
+        "Explains a Set-Cookie header value received from URL instead",
+    )
+    .conflicts_with("FILE")?
+    .conflicts_with("format")?
+    .conflicts_with("skip-malformed")
 }
 
 fn set<'a>(alloc: Global) -> Result<Command<'a>, AllocError> {
-    Command::new(alloc, "set")
+    let command = Command::new(alloc, "set")
         .about("Inserts the cookie of a Set-Cookie header value")
         .arg(word(alloc, "URL", "The URL that the value was received from"))?
         .arg(word(alloc, "SET-COOKIE", "The value of the Set-Cookie header"))?
@@ -98,13 +97,9 @@ fn set<'a>(alloc: Global) -> Result<Command<'a>, AllocError> {
             alloc,
             "FILE",
             "The file of the cookies, which need not exist",
-        ))?
-        .arg(suffixes(
-            alloc,
-            "Rejects domain cookies for the public suffixes of LIST",
-        ))?
-        .arg(only_listed(alloc)?)?
-        .arg(flag(alloc, "strict", "Follows the rules of browsers"))?
+        ))?;
+    let help = "Rejects domain cookies for the public suffixes of LIST";
+    with_rules(alloc, command, help)?
         .arg(format(alloc, "format", "The format of FILE"))?
         .arg(now(alloc))
 }
@@ -149,6 +144,26 @@ fn convert<'a>(alloc: Global) -> Result<Command<'a>, AllocError> {
         ))?
         .arg(input_format(alloc, "from", "The format of IN"))?
         .arg(format(alloc, "to", "The format of OUT"))?
+        .arg(now(alloc))
+}
+
+// Adds the options of the rules under which cookies are sent and stored.
+fn with_rules<'a>(
+    alloc: Global,
+    command: Command<'a>,
+    suffixes_help: &'a str,
+) -> Result<Command<'a>, AllocError> {
+    command
+        .arg(suffixes(alloc, suffixes_help))?
+        .arg(only_listed(alloc)?)?
+        .arg(flag(alloc, "strict", "Follows the rules of browsers"))
+}
+
+// Adds the options of a file that is read, and the time.
+fn with_input<'a>(alloc: Global, command: Command<'a>) -> Result<Command<'a>, AllocError> {
+    command
+        .arg(skip_malformed(alloc))?
+        .arg(input_format(alloc, "format", "The format of FILE"))?
         .arg(now(alloc))
 }
 

@@ -1,93 +1,95 @@
 //! Runs of calls, and the cookies of a response, with each allocation failing.
-use super::{FROM, GIVEN, ROWS, end, rejects_by_its_list, start, store_of_texts};
-use crate::calls::{CALLS, all_calls, are_done};
+use super::{FOUR, FROM, GIVEN, end, start, store_of_texts};
 use crate::checks::is_equal;
-use crate::responses::raw_cookies;
-use crate::steps::{new_year, store_under};
-use crate::texts::{are_given, url};
-use cookie_store::{Bulk, Call, CookieStore, RawCookie, Reply};
-use log::sink::Discard;
-use std::alloc::{AllocError, Global};
+use crate::insertion::set_call;
+use crate::responses::respond;
+use crate::steps::new_year;
+use crate::texts::{are_given, given};
+use cookie_store::{Call, CookieStore};
+use std::alloc::Global;
 use std::process::Abort;
-use std::vec::IntoIter;
-use url::Url;
 
-// The replies to the calls executed: to all, or to fewer if out of memory.
-fn replies_to_all(
-    rt: &impl Abort,
-    alloc: Global,
-    store: &mut CookieStore,
-    calls: Vec<Call>,
-) -> Vec<Reply> {
-    start(alloc);
-    let outcome = store.apply_all(calls);
-    end(alloc);
-    match outcome {
-        Ok(replies) => {
-            is_equal(rt, &replies.len(), &CALLS.len(), &"all calls");
-            replies
-        }
-        Err(stopped) => {
-            is_equal(rt, &stopped.replies.len(), &stopped.count, &"the replies");
-            is_equal(rt, &(stopped.count < CALLS.len()), &true, &stopped.count);
-            stopped.replies
-        }
-    }
-}
-
-#[test]
-fn apply_all(rt: HostRuntime) {
-    let mut store = store_under(&rt, rt.alloc(), "com");
-    let calls = all_calls(&rt, rt.alloc());
-    let replies = replies_to_all(&rt, rt.alloc(), &mut store, calls);
-    are_done(&rt, rt.alloc(), &store, replies.as_slice());
-}
-
-// The cookies of a response, one of which is rejected, and what the store of four cookies returns
-// after none, one, two ..
-const RESPONSE: [&str; 4] = [
+// `Set-Cookie` values received from `FROM`, and what a store of four cookies returns for it after
+// none, one, two ..
+static VALUES: [&str; 4] = [
     "t=1",
     "s=1; Max-Age=0",
     "y=2; Domain=example.com; Path=/",
     "w=1; Domain=b.example.com; Path=/",
 ];
 
-const AFTER: [&str; 5] = [
+static AFTER: [&str; 5] = [
     GIVEN,
     "x=1; z=1; y=1; u=1; t=1",
     "x=1; z=1; y=1; u=1; t=1",
     "x=1; z=1; y=2; u=1; t=1",
-    "x=1; w=1; z=1; y=2; u=1; t=1",
+    LAST,
 ];
 
-// How many cookies of the response were processed: those before the one that ran out of memory.
-fn stored_of_response(
+const LAST: &str = "x=1; w=1; z=1; y=2; u=1; t=1";
+
+fn calls(rt: &impl Abort, alloc: Global) -> Vec<Call> {
+    let mut calls = Vec::new(alloc);
+    for value in &VALUES {
+        let call = set_call(rt, alloc, FROM, value);
+        calls.push(call).expect(rt, "memory");
+    }
+    calls
+}
+
+// How many calls were executed: all, or fewer if an allocation failed.
+pub fn count_done(
     rt: &impl Abort,
     alloc: Global,
     store: &mut CookieStore,
-    cookies: &mut IntoIter<RawCookie<'static>>,
-    url: &Url,
+    calls: Vec<Call>,
 ) -> usize {
+    let count = calls.len();
     start(alloc);
-    let outcome = store.store_response_cookies(&Discard, &mut *cookies, url, new_year());
-    end(alloc);
-    let came = RESPONSE.len().saturating_sub(cookies.len());
+    let outcome = store.apply_all(calls);
+    let is_ample = end(alloc);
     match outcome {
-        Ok(()) => {
-            is_equal(rt, &came, &RESPONSE.len(), &"the cookies that came");
-            came
+        Ok(replies) => {
+            is_equal(rt, &replies.len(), &count, &"all calls");
+            count
         }
-        Err(AllocError) => came.saturating_sub(1),
+        Err(stopped) => {
+            let counts = (stopped.replies.len(), is_ample);
+            is_equal(rt, &counts, &(stopped.count, false), &"the first calls");
+            stopped.count
+        }
     }
 }
 
 #[test]
-fn store_response_cookies(rt: HostRuntime) {
-    let url = url(&rt, rt.alloc(), FROM);
-    let mut store = store_of_texts(&rt, rt.alloc(), &ROWS);
-    let mut cookies = raw_cookies(&rt, rt.alloc(), &RESPONSE).into_iter();
-    let count = stored_of_response(&rt, rt.alloc(), &mut store, &mut cookies, &url);
-    let wanted = AFTER.get(count).expect(&rt, "no more cookies than came");
-    are_given(&rt, rt.alloc(), &store, (FROM, wanted), new_year(), &count);
-    rejects_by_its_list(&rt, &mut store, &url);
+fn calls_are_executed(rt: HostRuntime) {
+    let mut store = store_of_texts(&rt, rt.alloc(), &FOUR);
+    let calls = calls(&rt, rt.alloc());
+    let count = count_done(&rt, rt.alloc(), &mut store, calls);
+    let after = AFTER.get(count).expect(&rt, "at most all calls");
+    are_given(&rt, rt.alloc(), &store, (FROM, after), new_year(), &count);
+}
+
+// Checks that the store has the cookies of the response, or the first ones.
+fn has_cookies(rt: &impl Abort, alloc: Global, store: &CookieStore, has_all: bool) {
+    let given = given(rt, alloc, store, FROM, new_year());
+    let is_after = AFTER.contains(&given.as_str());
+    is_equal(rt, &is_after, &true, &given);
+    is_equal(rt, &(given.as_str() == LAST || !has_all), &true, &given);
+}
+
+// Stores the cookies of a response: all, or the first ones if an allocation failed.
+fn are_stored(rt: &impl Abort, alloc: Global, is_strict: bool) {
+    let mut store = store_of_texts(rt, alloc, &FOUR);
+    let outcome = respond(rt, alloc, is_strict, &mut store, &VALUES, FROM);
+    let is_ample = end(alloc);
+    is_equal(rt, &(outcome.is_ok() || !is_ample), &true, &is_strict);
+    has_cookies(rt, alloc, &store, outcome.is_ok());
+}
+
+#[test]
+fn the_cookies_of_a_response_are_stored(rt: HostRuntime) {
+    for is_strict in [false, true] {
+        are_stored(&rt, rt.alloc(), is_strict);
+    }
 }

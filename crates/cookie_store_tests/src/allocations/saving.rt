@@ -1,139 +1,133 @@
 //! Saving and loading in each format, with each allocation failing.
-use super::{FROM, GIVEN_OF_FIVE, end, start};
+use super::{end, start};
 use crate::built::store_of;
-use crate::checks::{end_of, has_the_same_rows, is_equal};
-use crate::forms;
-use crate::forms::{CASES as FORMS, Shape};
-use crate::lists::Form;
-use crate::saved_lines::Selection;
-use crate::steps::new_year;
-use crate::texts::{are_given, url};
+use crate::checks::{is_equal, is_text};
+use crate::formats::{Form, Shape, end_of, from_text, is_saved_as, load, save, to_text};
+use crate::saved_files::{FILES, FROM};
+use crate::texts::url;
 use cookie_fakes::Fake;
-use cookie_store::Error;
+use cookie_store::CookieStore;
+use cookie_store::serde::FormatError;
 use std::alloc::Global;
+use std::fmt::Debug;
 use std::process::Abort;
-use url::Url;
 
-// Whether the output is well formed if out of memory: whole lines of the first cookies, or nothing
-// for one string.
-fn is_cut_off_well(case: &forms::Case, written: &[u8]) -> bool {
-    match case.0 {
-        Shape::Lines | Shape::JsonLines => {
-            case.1.as_bytes().starts_with(written)
-                && (written.is_empty() || written.ends_with(b"\n"))
-        }
-        Shape::Text | Shape::List(_) | Shape::Netscape => written.is_empty(),
-    }
+// Checks that the call ran out of memory because an allocation failed.
+fn ran_out<T>(rt: &impl Abort, outcome: &Result<T, FormatError>, is_ample: bool, row: &impl Debug) {
+    let end = (end_of(outcome), is_ample);
+    is_equal(rt, &end, &("out of memory", false), row);
 }
 
-fn is_saved(rt: &impl Abort, case: &forms::Case, outcome: &Result<(), Error>, written: &[u8]) {
-    match outcome {
-        Ok(()) => is_equal(rt, &written, &case.1.as_bytes(), case),
-        Err(error) => {
-            is_equal(rt, error, &Error::Memory, case);
-            is_equal(rt, &is_cut_off_well(case, written), &true, &(case, written));
+// Whether what was written is well formed if out of memory: whole lines of the first cookies, or
+// nothing for one string.
+fn is_cut_off_well(shape: Shape, written: &[u8], text: &str) -> bool {
+    match shape {
+        Shape::Pairs | Shape::File(_) => written.is_empty(),
+        _ => {
+            text.as_bytes().starts_with(written) && (written.is_empty() || written.ends_with(b"\n"))
         }
     }
 }
 
-// Checks that the cookies are saved, or out of memory, and that the store keeps them.
-fn are_saved_as(rt: &impl Abort, alloc: Global, case: &forms::Case, which: &Selection) {
-    let store = store_of(rt, alloc, &forms::RECEIVED);
-    let room = Vec::with_capacity(alloc, 1_024).expect(rt, "memory");
+// Checks that the cookies are saved as the text.
+fn is_saved(
+    rt: &impl Abort,
+    alloc: Global,
+    shape: Shape,
+    all: bool,
+    store: &CookieStore,
+    text: &str,
+) {
+    let room = Vec::with_capacity(alloc, text.len()).expect(rt, "memory");
     let fake = Fake::new(room, usize::MAX, 0);
     start(alloc);
-    let (outcome, failures, fake) = forms::save(alloc, case.0, &store, which, fake);
-    end(alloc);
-    is_equal(rt, &failures, &0, case);
-    is_saved(rt, case, &outcome, fake.inner.as_slice());
-    has_the_same_rows(rt, &store, &store_of(rt, alloc, &forms::RECEIVED));
-}
-
-// In each format.
-fn are_saved(rt: &impl Abort, alloc: Global, which: &Selection) {
-    for case in &FORMS {
-        are_saved_as(rt, alloc, case, which);
+    let (outcome, failures, fake) = save(alloc, shape, all, store, fake);
+    let is_ample = end(alloc);
+    let written = fake.inner.as_slice();
+    is_equal(rt, &failures, &0, &(shape, all));
+    if outcome.is_ok() {
+        let written = str::from_utf8(written).unwrap_or("not UTF-8");
+        is_text(rt, written, text, &(shape, all));
+    } else {
+        ran_out(rt, &outcome, is_ample, &(shape, all));
+        let is_well = is_cut_off_well(shape, written, text);
+        is_equal(rt, &is_well, &true, &(shape, all));
     }
 }
 
-#[test]
-fn save(rt: HostRuntime) {
-    are_saved(&rt, rt.alloc(), &Selection::At(new_year()));
-}
-
-#[test]
-fn save_incl_expired_and_nonpersistent(rt: HostRuntime) {
-    are_saved(&rt, rt.alloc(), &Selection::All);
-}
-
-// A format, a text, and what the store loaded from it returns for `FROM`.
-type Source = (Shape, &'static [u8], &'static str);
-
-static SOURCES: [Source; 6] = [
-    (
-        Shape::Lines,
-        b"x=1; Domain=b.example.com; Path=/\n\
-        z=1; Domain=b.example.com; Path=/p\n\
-        y=1; Domain=example.com; Path=/\n\
-        u=1; Domain=example.com; Path=/p\n\
-        t=1\n",
-        GIVEN_OF_FIVE,
-    ),
-    (Shape::Text, b"y=1|u=1", "y=1; u=1"),
-    (
-        Shape::JsonLines,
-        br#"{"domain":{"Suffix":"example.com"},"expires":"SessionEnd","path":["/",true],"raw_cookie":"y=1"}
-{"domain":{"HostOnly":"a.b.example.com"},"expires":{"AtUtc":"2100-08-03T00:38:37Z"},"path":["/p",false],"raw_cookie":"u=1"}
-"#,
-        "y=1; u=1",
-    ),
-    (
-        Shape::List(Form::Json),
-        br#"[{"domain":{"Suffix":"example.com"},"expires":"SessionEnd","path":["/",true],"raw_cookie":"y=1"},
-{"domain":{"HostOnly":"a.b.example.com"},"expires":{"AtUtc":"2100-08-03T00:38:37Z"},"path":["/p",false],"raw_cookie":"u=1"}]
-"#,
-        "y=1; u=1",
-    ),
-    (
-        Shape::List(Form::Ron),
-        br#"[(raw_cookie: "y=1", path: ("/", true), domain: Suffix("example.com"), expires: SessionEnd),
-(raw_cookie: "u=1", path: ("/p", false), domain: HostOnly("a.b.example.com"), expires: AtUtc("2100-08-03T00:38:37Z"))]
-"#,
-        "y=1; u=1",
-    ),
-    (
-        Shape::Netscape,
-        b".example.com\tTRUE\t/\tFALSE\t0\ty\t1\na.b.example.com\tFALSE\t/p\tFALSE\t4121282317\tu\t1\n",
-        "y=1; u=1",
-    ),
-];
-
-fn is_loaded(rt: &impl Abort, alloc: Global, url: &Url, source: &Source, which: &Selection) {
-    let (shape, bytes, wanted) = *source;
-    let fake = Fake::new(bytes, usize::MAX, 0);
-    start(alloc);
-    let (outcome, failures, _) = forms::load(alloc, shape, url, which, fake);
-    end(alloc);
-    is_equal(rt, &failures, &0, source);
-    match &outcome {
-        Ok(store) => are_given(rt, alloc, store, (FROM, wanted), new_year(), &shape),
-        Err(_) => is_equal(rt, &end_of(&outcome), &"memory", source),
+// Checks that the cookies that were loaded from the text are saved as it again.
+pub fn has_loaded(
+    rt: &impl Abort,
+    alloc: Global,
+    shape: Shape,
+    outcome: &Result<CookieStore, FormatError>,
+    text: &str,
+    is_ample: bool,
+) {
+    match outcome {
+        Ok(store) => is_saved_as(rt, alloc, shape, store, text),
+        Err(_) => ran_out(rt, outcome, is_ample, &shape),
     }
 }
 
-fn are_loaded(rt: &impl Abort, alloc: Global, which: &Selection) {
+fn is_loaded(rt: &impl Abort, alloc: Global, shape: Shape, all: bool, text: &str) {
     let url = url(rt, alloc, FROM);
-    for source in &SOURCES {
-        is_loaded(rt, alloc, &url, source, which);
+    let fake = Fake::new(text.as_bytes(), usize::MAX, 0);
+    start(alloc);
+    let (outcome, failures, _) = load(rt, alloc, shape, all, &url, fake);
+    let is_ample = end(alloc);
+    is_equal(rt, &failures, &0, &(shape, all));
+    has_loaded(rt, alloc, shape, &outcome, text, is_ample);
+}
+
+// The same of a string, which has no line feed at its end.
+fn is_formatted(
+    rt: &impl Abort,
+    alloc: Global,
+    form: Form,
+    all: bool,
+    store: &CookieStore,
+    text: &str,
+) {
+    start(alloc);
+    let outcome = to_text(form, all, store);
+    let is_ample = end(alloc);
+    match &outcome {
+        Ok(formatted) => is_text(rt, formatted.as_str(), text.trim_end(), &(form, all)),
+        Err(_) => ran_out(rt, &outcome, is_ample, &(form, all)),
+    }
+}
+
+fn is_parsed(rt: &impl Abort, alloc: Global, form: Form, all: bool, text: &str) {
+    start(alloc);
+    let outcome = from_text(alloc, form, all, text);
+    let is_ample = end(alloc);
+    has_loaded(rt, alloc, Shape::File(form), &outcome, text, is_ample);
+}
+
+// Checks what the cookies are saved as, and that this is loaded as them, or that an allocation
+// failed.
+pub fn is_file(
+    rt: &impl Abort,
+    alloc: Global,
+    shape: Shape,
+    all: bool,
+    store: &CookieStore,
+    text: &str,
+) {
+    is_saved(rt, alloc, shape, all, store, text);
+    is_loaded(rt, alloc, shape, all, text);
+    if let Shape::File(form) = shape {
+        is_formatted(rt, alloc, form, all, store, text);
+        is_parsed(rt, alloc, form, all, text);
     }
 }
 
 #[test]
-fn load(rt: HostRuntime) {
-    are_loaded(&rt, rt.alloc(), &Selection::At(new_year()));
-}
-
-#[test]
-fn load_all(rt: HostRuntime) {
-    are_loaded(&rt, rt.alloc(), &Selection::All);
+fn cookies_are_saved_and_loaded(rt: HostRuntime) {
+    for (shape, received, all, lasting) in &FILES {
+        let store = store_of(&rt, rt.alloc(), received);
+        is_file(&rt, rt.alloc(), *shape, true, &store, all);
+        is_file(&rt, rt.alloc(), *shape, false, &store, lasting);
+    }
 }

@@ -5,7 +5,6 @@ use Rattle.cookie_durable.specs.Durable.{IsAtomic, IsSaved}
 use Rattle.cookie_durable.specs.Numbering.{Touches, key_in}
 use Rattle.cookie_durable.proofs.CallSteps.{insert_touches}
 use Rattle.cookie_durable.proofs.CommittedCalls.{is_atomic, saves}
-use Rattle.cookie_durable.proofs.LoadedRows.{names_key}
 use Rattle.cookie_durable.proofs.durable_store.DurableStore.insert.Given.{Over}
 use Rattle.cookie_durable.proofs.durable_store.DurableStore.insert.Goals as goal
 use Rattle.cookie_durable.proofs.durable_store.DurableStore.insert.Goals.{After-write}
@@ -19,8 +18,7 @@ touched : (g : Over) (c : After-write g)
     → IsSaved c.self.inside.store c.self.inside.ids.entries c.self.inside.next c.self.inside.table (g.S.Store.view c.self.inside.file)
     → Touches (key_in c.in_ok-names.names) c.self.inside.store c.insert_received.new.store
 touched g c before =
-    insert_touches _ _ c.args.cookie c.args.url.now (moment_of c.args.now) c.in_ok-names.names _ _ _ _
-    (names_key c.in_ok-names.names _ c.args.cookie _ _ _ c.cookie.view_is c.in_ok-names.ensures c.as_str.ensures c.as_str-2.ensures c.name.ensures)
+    insert_touches _ _ c.args.cookie c.args.url.now (moment_of c.args.now) c.in_ok-names.names _ _ _ _ c.in_ok-names.ensures.key
     c.in_ok-action.ensures.store before
 
 -- a crash leaves the table as it was, or with the cookies after the call

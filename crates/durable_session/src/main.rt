@@ -1,0 +1,137 @@
+//! A session whose cookies survive crashes, in the SQLite file that the argument names.
+//!
+//! Each line of standard input is a call: `set URL VALUE`, where `VALUE` is a `Set-Cookie` header
+//! value received from the URL, `remove DOMAIN PATH NAME`, `purge`, which removes expired cookies,
+//! or `clear`. What became of a call is printed once its change is committed. At the end the file
+//! is opened again, as after a crash, and its cookies are printed.
+#![tactic(auto)]
+
+ghost use Rattle.cookie_durable.specs.Durable.{IsInStep};
+
+use cookie_core::{Call, Reply};
+use cookie_durable::DurableStore;
+use cookie_parts::StoreAction;
+use jiff::civil::{DateTime, date};
+use sqlite_disk::Unknown;
+use sqlite_trees::store::Store;
+use std::alloc::Global;
+use std::env;
+use std::test::Fail;
+use url::Url;
+
+/// Executes the calls of standard input. Session cookies are kept, since most logins are.
+fn execute_all(rt: &HostRuntime, file: &str, now: DateTime) -> Result<(), Fail> {
+    let session = DurableStore::open_path(rt, file, true, Unknown)?;
+    execute_lines(rt, session, now)
+}
+
+/// Executes the calls of standard input on an open file.
+fn execute_lines<S: Store + Drop>(
+    rt: &HostRuntime,
+    session: DurableStore<S>,
+    now: DateTime,
+) -> Result<(), Fail>
+    requires { IsInStep session (S.Store.view session.file) }
+{
+    let mut session = session;
+    for line in rt.lines(rt.alloc()) {
+        let line = line?;
+        let outcome = execute(&mut session, rt.alloc(), line.as_str(), now)?;
+        println!(rt; "{outcome}")?;
+    }
+    Ok(())
+}
+
+/// Executes the call of a line and commits the change. Returns what became of it.
+fn execute<S: Store>(
+    session: &mut DurableStore<S>,
+    alloc: Global,
+    line: &str,
+    now: DateTime,
+) -> Result<&'static str, Fail>
+    requires { IsInStep session.old (S.Store.view session.old.file) }
+    ensures { IsInStep session.new (S.Store.view session.new.file) }
+{
+    if line == "purge" {
+        session.remove_expired(alloc, now)?;
+        return Ok("purged");
+    }
+    let call = call_of(alloc, line, now)?;
+    let reply = session.apply(alloc, call)?;
+    Ok(text_of(&reply))
+}
+
+/// Parses a call other than `purge`.
+fn call_of(alloc: Global, line: &str, now: DateTime) -> Result<Call, Fail> {
+    let (verb, rest) = line.split_once(' ').unwrap_or((line, ""));
+    match verb {
+        "set" => set_call(alloc, rest, now),
+        "remove" => remove_call(alloc, rest),
+        "clear" => Ok(Call::Clear),
+        _ => Err(Fail::new("no such call")),
+    }
+}
+
+/// The URL, a space, and the rest of the line as the header value.
+fn set_call(alloc: Global, rest: &str, now: DateTime) -> Result<Call, Fail> {
+    let (url, text) = rest.split_once(' ').ok_or("a URL without a header value")?;
+    let url = Url::parse(alloc, url)?;
+    let text = String::from_str(alloc, text)?;
+    Ok(Call::Set { text, url, now })
+}
+
+/// The domain and the path, each followed by a space, and the name.
+fn remove_call(alloc: Global, rest: &str) -> Result<Call, Fail> {
+    let (domain, rest) = rest.split_once(' ').ok_or("a domain without a path")?;
+    let (path, name) = rest.split_once(' ').ok_or("a path without a name")?;
+    let domain = String::from_str(alloc, domain)?;
+    let path = String::from_str(alloc, path)?;
+    let name = String::from_str(alloc, name)?;
+    Ok(Call::Remove { domain, path, name })
+}
+
+/// Returns what became of a call.
+fn text_of(reply: &Reply) -> &'static str {
+    match reply {
+        Reply::Stored(Ok(StoreAction::Inserted)) => "inserted",
+        Reply::Stored(Ok(StoreAction::UpdatedExisting)) => "replaced",
+        Reply::Stored(Ok(StoreAction::ExpiredExisting)) => "expired",
+        Reply::Stored(Err(error)) => error.text(),
+        Reply::Removed(Some(_)) => "removed",
+        Reply::Removed(None) => "none",
+        Reply::Cleared => "cleared",
+    }
+}
+
+/// Opens the file and prints its cookies.
+fn print_cookies(rt: &HostRuntime, file: &str, now: DateTime) -> Result<(), Fail> {
+    let session = DurableStore::open_path(rt, file, true, Unknown)?;
+    print_session(rt, session, now)
+}
+
+/// Prints the cookies of an open file.
+fn print_session<S: Store + Drop>(
+    rt: &HostRuntime,
+    session: DurableStore<S>,
+    now: DateTime,
+) -> Result<(), Fail> {
+    for cookie in session.store().iter_any() {
+        let (domain, path) = (cookie.domain.as_str(), cookie.path.as_str());
+        let (name, value) = (cookie.name(), cookie.value());
+        let note = if cookie.is_expired(now) {
+            ", expired"
+        } else {
+            ""
+        };
+        println!(rt; "{domain} {path} {name}={value}{note}")?;
+    }
+    Ok(())
+}
+
+fn main(rt: HostRuntime) -> Result<(), Fail> {
+    let words: Vec<String> = env::args(&rt)?.collect(rt.alloc())?;
+    let file = words.get(1).ok_or("no file is named")?;
+    let now = date(2026, 1, 1).at(0, 0, 0, 0);
+    execute_all(&rt, file.as_str(), now)?;
+    print_cookies(&rt, file.as_str(), now)
+}
