@@ -7,7 +7,7 @@ use Rattle.cookie_laws.specs.Contents.{Contents}
 use Rattle.cookie_laws.specs.Runs.{Call, Reply, replies, step, store_after}
 use Rattle.cookie_core.proofs.LongerRuns.{store_after_more}
 use Rattle.cookie_durable.specs.Durable.{HoldsAfterPrefix}
-use Rattle.cookie_durable.specs.Saved.{Holds}
+use Rattle.cookie_durable.specs.SavedTables.{Holds}
 
 -- the first items of two lists, as many as the first has
 take-prefix : {T : Type 0} (xs ys : List T) → take (length xs) (xs ++ ys) ≡ xs

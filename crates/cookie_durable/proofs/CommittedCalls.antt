@@ -5,7 +5,7 @@ use Rattle.sqlite_trees.specs.View.{IsClean, View, doubt}
 use Rattle.durable_table.specs.Transactions.{IsReady}
 use Rattle.cookie_laws.specs.Contents.{Contents}
 use Rattle.cookie_durable.specs.Durable.{Durable, IsInStep, IsSaved}
-use Rattle.cookie_durable.specs.Saved.{Holds}
+use Rattle.cookie_durable.specs.SavedTables.{Holds}
 use Rattle.cookie_durable.proofs.SavedFiles.{settled-holds}
 
 -- the table has the cookies of the store

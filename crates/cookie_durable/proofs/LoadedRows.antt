@@ -20,7 +20,7 @@ use Rattle.cookie_laws.proofs.RowsByKey.{row_of-put, row_of-put_other}
 use Rattle.cookie_laws.proofs.SameCounts.{permutation_from_alike}
 use Rattle.cookie_table.specs.FromColumns.{cookie_in}
 use Rattle.cookie_durable.specs.Numbering.{Ids, IsNumbered, Names, SetsId, Touches, id_of, key_in}
-use Rattle.cookie_durable.specs.Saved.{IsSavedAs}
+use Rattle.cookie_durable.specs.SavedTables.{IsSavedAs}
 use Rattle.cookie_durable.proofs.IdsByKey.{sets_id}
 use Rattle.cookie_durable.proofs.TouchedKeys.{created_by}
 use Rattle.cookie_durable.proofs.WrittenCookies.{next_above, pushed}

@@ -21,7 +21,7 @@ use Rattle.sqlite_store.specs.declared.saved.Saved.{Saved}
 use Rattle.sqlite_store.specs.declared.store.FileStore.{FileStore}
 use Rattle.sqlite_store.specs.declared.store.open.Unopened.{Unopened}
 use Rattle.durable_table.specs.Transactions.{IsReady as IsTableReady}
-use Rattle.cookie_durable.specs.Files.{cookies_schema, image_of, HasNoTable, HasRead, IsHarmless, IsSpared, IsUnderWay}
+use Rattle.cookie_durable.specs.DatabaseFiles.{cookies_schema, image_of, HasNoTable, HasRead, IsHarmless, IsSpared, IsUnderWay}
 
 pub ok_by : {T E : Type 0} (r : Result T E) (P Q R S Z : T → Type 0) → IfOk r P → IfOk r Q → IfOk r R → IfOk r S → ((x : T) → P x → Q x → R x → S x → Z x) → IfOk r Z
 ok_by (Ok x) P Q R S Z p q r s so = so x p q r s

@@ -13,7 +13,7 @@ use Rattle.durable_table.specs.declared.change.Change.{Change}
 use Rattle.durable_table.proofs.InTable.{in_table-at}
 use Rattle.cookie_durable.specs.Durable.{IsSaved, IsUnwritten}
 use Rattle.cookie_durable.specs.Numbering.{Ids, IsNumbered}
-use Rattle.cookie_durable.specs.Saved.{Holds}
+use Rattle.cookie_durable.specs.SavedTables.{Holds}
 use Rattle.cookie_durable.proofs.WrittenCookies.{numbered-holds}
 
 -- changes that lead to the rows of a store

@@ -18,7 +18,7 @@ use Rattle.cookie_laws.proofs.LimitedRows.{row-created}
 use Rattle.durable_table.specs.Changes.{after}
 use Rattle.durable_table.specs.declared.change.Change.TheVariants.{Delete}
 use Rattle.cookie_durable.specs.Numbering.{Ids, IsNumbered, IsRowOf, Names, id_of, key_in}
-use Rattle.cookie_durable.specs.Saved.{IsSavedAs}
+use Rattle.cookie_durable.specs.SavedTables.{IsSavedAs}
 use Rattle.cookie_durable.specs.Sweeping.{AreDistinct, Shrinks, gone_ids, has_cookie, kept_ids}
 use Rattle.cookie_durable.proofs.IdsByKey.{among_values, own_rowid}
 use Rattle.cookie_durable.proofs.RowEdits.{after-deletions, has_one, later_one, later_rows, rowid-holds, zip_both, zip_weaker}

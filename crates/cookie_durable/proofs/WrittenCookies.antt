@@ -25,7 +25,7 @@ use Rattle.durable_table.specs.Changes.{after}
 use Rattle.durable_table.specs.declared.change.Change.{Change}
 use Rattle.durable_table.specs.declared.change.Change.TheVariants.{Put, Delete}
 use Rattle.cookie_durable.specs.Numbering.{GivesId, Ids, IsNumbered, IsRowOf, SetsId, Touches, WritesCookie, id_of}
-use Rattle.cookie_durable.specs.Saved.{Holds, IsSavedAs}
+use Rattle.cookie_durable.specs.SavedTables.{Holds, IsSavedAs}
 use Rattle.cookie_durable.proofs.IdsByKey.{among_values, own_rowid}
 use Rattle.cookie_durable.proofs.RowEdits.{all_deleted, has_one, other_rows, put_row-last, rowid-holds, rows-push, rows-put, rows-without, zip_rows, zip_weaker}
 use Rattle.cookie_durable.proofs.TouchedKeys.{removed-absent}

@@ -7,7 +7,7 @@ use Rattle.cookie_laws.specs.Contents.{Contents}
 use Rattle.cookie_laws.specs.Runs.{Call, store_after}
 use Rattle.durable_table.specs.Transactions.{IsReady}
 use Rattle.cookie_durable.specs.Numbering.{Ids, IsNumbered}
-use Rattle.cookie_durable.specs.Saved.{Holds}
+use Rattle.cookie_durable.specs.SavedTables.{Holds}
 use Rattle.cookie_durable.specs.declared.durable_error.DurableError.{DurableError}
 use Rattle.cookie_durable.specs.declared.durable_error.DurableError.TheVariants.{NotWritten}
 

@@ -1,7 +1,7 @@
 pub mod Checks
+pub mod DatabaseFiles
 pub mod Durable
-pub mod Files
 pub mod Numbering
-pub mod Saved
+pub mod SavedTables
 pub mod Sessions
 pub mod Sweeping

@@ -15,7 +15,7 @@ use Rattle.cookie_table.specs.FromColumns.{cookie_in}
 use Rattle.cookie_table.specs.WholeSeconds.{in_whole_seconds}
 use Rattle.durable_table.specs.declared.change.Change.{Change}
 use Rattle.durable_table.specs.declared.change.Change.TheVariants.{Put, Delete}
-use Rattle.cookie_durable.specs.Saved.{IsSavedAs}
+use Rattle.cookie_durable.specs.SavedTables.{IsSavedAs}
 
 -- a domain, a path and a name
 abbrev pub Names : Type 0

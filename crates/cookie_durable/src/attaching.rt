@@ -9,7 +9,7 @@ ghost use Rattle.sqlite_store.specs.Db.{IsFile};
 ghost use Rattle.sqlite_store.specs.FileStore.{schema_of, state, view, IsReady};
 ghost use Rattle.sqlite_store.specs.Listing.{file_trees};
 ghost use Rattle.sqlite_store.specs.Unopened.{files_of, image, state_of, wanted_by, AreUsable, Creates, Opens};
-ghost use Rattle.cookie_durable.specs.Files.{cookies_schema, image_of, FindsRows, HasRead, IsCleanLeft, IsSpared, LeavesFiles};
+ghost use Rattle.cookie_durable.specs.DatabaseFiles.{cookies_schema, image_of, FindsRows, HasRead, IsCleanLeft, IsSpared, LeavesFiles};
 
 use crate::OpenError;
 use cookie_table::CREATE_TABLE;

@@ -7,10 +7,10 @@ ghost use Rattle.durable_table.specs.Transactions.{IsReady};
 ghost use Rattle.cookie_laws.specs.Contents.{Contents};
 ghost use Rattle.cookie_laws.specs.Rows.{key_at};
 ghost use Rattle.cookie_laws.specs.Runs.{step, Clear, Insert, Remove, Removed, Set, Stored};
-ghost use Rattle.cookie_durable.specs.Durable.{ChangesTo, IsAtomic, IsInStep, IsNotWritten, IsSaved};
 ghost use Rattle.cookie_durable.specs.Checks.{is_unstorable, IsReasonOf};
+ghost use Rattle.cookie_durable.specs.Durable.{ChangesTo, IsAtomic, IsInStep, IsNotWritten, IsSaved};
 ghost use Rattle.cookie_durable.specs.Numbering.{key_in, Touches};
-ghost use Rattle.cookie_durable.specs.Saved.{Holds};
+ghost use Rattle.cookie_durable.specs.SavedTables.{Holds};
 
 use crate::changes::deletions;
 use crate::numbering::{Names, names_of};
@@ -32,7 +32,8 @@ impl<S: Store> DurableStore<S> {
     ///
     /// # Errors
     ///
-    /// Those of [`insert`](Self::insert).
+    /// Those of [`insert`](Self::insert). `OutOfMemory` may come before `Unstorable` and `Full`: the
+    /// header value is parsed first.
     pub fn parse(
         &mut self,
         alloc: Global,

@@ -5,7 +5,7 @@ ghost use Rattle.sqlite_trees.specs.View.{IsClean};
 ghost use Rattle.cookie_core.specs.CallViews.{call_view, reply_view};
 ghost use Rattle.cookie_laws.specs.Runs.{replies};
 ghost use Rattle.cookie_durable.specs.Durable.{HoldsAfterPrefix, IsInStep};
-ghost use Rattle.cookie_durable.specs.Saved.{Holds};
+ghost use Rattle.cookie_durable.specs.SavedTables.{Holds};
 
 use crate::{DurableStore, OpenError};
 use cookie_core::{Call, Reply};

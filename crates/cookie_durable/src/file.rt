@@ -3,8 +3,8 @@ ghost use Rattle.std.specs.Prelude.{◌≡◌, false, IfErr, IfOk, IsTrue};
 ghost use Rattle.sqlite_wal.specs.Files.{image_at};
 ghost use Rattle.sqlite_trees.specs.View.{IsClean};
 ghost use Rattle.sqlite_store.specs.FileStore.{is_shielded, view};
+ghost use Rattle.cookie_durable.specs.DatabaseFiles.{image_of, FindsCookies, IsCleanLeft, LeavesFiles};
 ghost use Rattle.cookie_durable.specs.Durable.{IsInStep};
-ghost use Rattle.cookie_durable.specs.Files.{image_of, FindsCookies, IsCleanLeft, LeavesFiles};
 
 use crate::attaching::{Leftover, attach};
 use crate::{DurableStore, OpenError};

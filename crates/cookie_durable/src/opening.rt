@@ -3,7 +3,7 @@ ghost use Rattle.std.specs.Prelude.{◌≡◌, false, IfErr, IfOk};
 ghost use Rattle.sqlite_trees.specs.View.{IsClean, IsQuiet};
 ghost use Rattle.durable_table.specs.Transactions.{IsReady};
 ghost use Rattle.cookie_durable.specs.Durable.{IsInStep};
-ghost use Rattle.cookie_durable.specs.Saved.{Holds};
+ghost use Rattle.cookie_durable.specs.SavedTables.{Holds};
 
 use crate::loading::load;
 use crate::{DurableStore, OpenError};

@@ -5,7 +5,7 @@ ghost use Rattle.sqlite_trees.specs.View.{IsClean, IsQuiet};
 ghost use Rattle.durable_table.specs.Changes.{HasRowid};
 ghost use Rattle.durable_table.specs.Transactions.{IsReady};
 ghost use Rattle.cookie_durable.specs.Durable.{IsInStep, IsUnwritten};
-ghost use Rattle.cookie_durable.specs.Saved.{Holds};
+ghost use Rattle.cookie_durable.specs.SavedTables.{Holds};
 ghost use Rattle.cookie_durable.specs.Sessions.{deletion, kept_rows, session_deletions, KeepsRows};
 
 use crate::{DurableStore, OpenError};

@@ -35,7 +35,8 @@ use url::Url;
 ///
 /// # Errors
 ///
-/// Those of [`insert`]. A header value that is not a cookie is neither `Unstorable` nor `Full`.
+/// Those of [`insert`]. `OutOfMemory` may come before `Unstorable` and `Full`: the header value is
+/// parsed first. One that is not a cookie is neither `Unstorable` nor `Full`.
 pub fn parse_in_context<S: Store>(
     durable: &mut DurableStore<S>,
     alloc: Global,

@@ -6,7 +6,7 @@ ghost use Rattle.durable_table.specs.Transactions.{IsReady};
 ghost use Rattle.cookie_laws.specs.Contents.{Contents};
 ghost use Rattle.cookie_durable.specs.Durable.{IsSaved};
 ghost use Rattle.cookie_durable.specs.Numbering.{key_in, Touches};
-ghost use Rattle.cookie_durable.specs.Saved.{Holds};
+ghost use Rattle.cookie_durable.specs.SavedTables.{Holds};
 ghost use Rattle.cookie_durable.specs.Sweeping.{Shrinks};
 
 use crate::changes::change_for;

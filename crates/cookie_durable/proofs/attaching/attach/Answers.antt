@@ -4,7 +4,7 @@ use Rattle.sqlite_wal.specs.Reads.{are_clean}
 use Rattle.sqlite_pool.specs.Opening.{IsBlankFile}
 use Rattle.sqlite_store.specs.FileStore.{view}
 use Rattle.sqlite_store.specs.Unopened.{image}
-use Rattle.cookie_durable.specs.Files.{image_of, FindsRows, IsHarmless}
+use Rattle.cookie_durable.specs.DatabaseFiles.{image_of, FindsRows, IsHarmless}
 use Rattle.cookie_durable.proofs.OpenedFiles.{pool_files, same_image}
 use Rattle.cookie_durable.proofs.attaching.attach.Goals as goal
 

@@ -5,7 +5,7 @@ use Rattle.sqlite_store.specs.Db.{IsFile}
 use Rattle.sqlite_store.specs.FileStore.{state}
 use Rattle.sqlite_store.specs.Listing.{file_trees}
 use Rattle.sqlite_store.specs.Unopened.{image, state_of, wanted_by}
-use Rattle.cookie_durable.specs.Files.{cookies_schema, listed_in}
+use Rattle.cookie_durable.specs.DatabaseFiles.{cookies_schema, listed_in}
 use Rattle.cookie_durable.proofs.OpenedFiles.{created, err_by, ok_by, opened, then_created, then_opened}
 use Rattle.cookie_durable.proofs.attaching.open_or_create.Goals as goal
 

@@ -5,7 +5,7 @@ use Rattle.cookie_laws.specs.Runs.{Clear, step}
 use Rattle.durable_table.specs.Changes.{after}
 use Rattle.cookie_durable.specs.Durable.{IsSaved}
 use Rattle.cookie_durable.specs.Numbering.{IsNumbered}
-use Rattle.cookie_durable.specs.Saved.{Holds}
+use Rattle.cookie_durable.specs.SavedTables.{Holds}
 use Rattle.cookie_durable.proofs.CommittedCalls.{is_atomic, saves}
 use Rattle.cookie_durable.proofs.SavedFiles.{changed-holds, committed-saved}
 use Rattle.cookie_durable.proofs.WrittenFiles.{cleared-numbered}

@@ -1,7 +1,7 @@
 use Rattle.std.proofs.Common.{arith, rules, subst, sym}
 use Rattle.sqlite_trees.specs.View.{IsClean}
 use Rattle.cookie_laws.specs.Contents.{Contents}
-use Rattle.cookie_durable.specs.Saved.{Holds}
+use Rattle.cookie_durable.specs.SavedTables.{Holds}
 use Rattle.cookie_durable.proofs.SavedFiles.{opened-saved, unwritten-ready}
 use Rattle.cookie_durable.proofs.WrittenCookies.{numbered-holds}
 use Rattle.cookie_durable.proofs.durable_store.DurableStore.open.Goals as goal

@@ -1,7 +1,7 @@
 use Rattle.std.proofs.Common.{◌≡◌, ℕ, sym, ap, ap₂, subst, ◌∙◌, inl, inr, arith}
 use Rattle.sqlite_trees.specs.Tree.{Trees}
 use Rattle.sqlite_trees.specs.View.{IsClean}
-use Rattle.cookie_durable.specs.Saved.{Holds}
+use Rattle.cookie_durable.specs.SavedTables.{Holds}
 use Rattle.cookie_durable.specs.Sessions.{kept_rows}
 use Rattle.cookie_durable.proofs.OpenedFiles.{err_by, ok_by}
 use Rattle.cookie_durable.proofs.SavedFiles.{open_if_sound}

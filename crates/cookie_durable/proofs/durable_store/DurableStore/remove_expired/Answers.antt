@@ -3,7 +3,7 @@ use Rattle.sqlite_trees.specs.Tree.{Trees}
 use Rattle.sqlite_trees.specs.View.{IsClean}
 use Rattle.cookie_words.specs.Moments.{moment_of}
 use Rattle.cookie_laws.specs.Contents.{unexpired}
-use Rattle.cookie_durable.specs.Saved.{Holds}
+use Rattle.cookie_durable.specs.SavedTables.{Holds}
 use Rattle.cookie_durable.proofs.CommittedCalls.{is_atomic, saves}
 use Rattle.cookie_durable.proofs.SweptFiles.{expired_shrinks}
 use Rattle.cookie_durable.proofs.durable_store.DurableStore.remove_expired.Given.{Over}

@@ -1,7 +1,7 @@
 use Rattle.std.proofs.Common.{ℕ, Bool, cond, List, ap₂, subst}
 use Rattle.sqlite_disk.specs.Events.{Event, replay}
 use Rattle.sqlite_wal.specs.Recovery.{Image}
-use Rattle.cookie_durable.specs.Files.{FindsCookies}
+use Rattle.cookie_durable.specs.DatabaseFiles.{FindsCookies}
 use Rattle.cookie_durable.proofs.file.DurableStore+FileStore+FileFrom+S.open_path.Goals as goal
 
 abbrev image : List ℕ → List ℕ → Image

@@ -22,7 +22,7 @@ use Rattle.sqlite_store.specs.declared.catalog.Wanted.{Wanted}
 use Rattle.sqlite_store.specs.declared.store.open.Unopened.{Unopened}
 use Rattle.cookie_table.specs.declared.writing.TheConstants.{CREATE_TABLE}
 use Rattle.cookie_laws.specs.Contents.{Contents}
-use Rattle.cookie_durable.specs.Saved.{Holds}
+use Rattle.cookie_durable.specs.SavedTables.{Holds}
 use Rattle.cookie_durable.specs.Sessions.{kept_rows}
 use Rattle.cookie_durable.specs.declared.attaching.Leftover.{Leftover}
 use Rattle.cookie_durable.specs.declared.attaching.Leftover.TheVariants as left
