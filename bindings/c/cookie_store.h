@@ -87,9 +87,9 @@
  *
  * Errors
  *
- *   A status below 10 is success, from 10 to 19 and from 40 on the cookie is rejected, and from 20
- *   to 39 the call failed. Statuses are named in these comments without their prefix
- *   COOKIE_STORE_. A call that fails leaves the store unchanged, except cookie_store_merge, and
+ *   A status below 10 is success, from 10 to 19 and from 40 to 99 the cookie is rejected, and from
+ *   20 to 39 and from 100 on the call failed. Statuses are named in these comments without their
+ *   prefix COOKIE_STORE_. A call that fails leaves the store unchanged, except cookie_store_merge, and
  *   writes nothing to a buffer, but for the number of a line with BAD_LINE. Each function lists its
  *   errors in the order in which they are checked: the first that applies is returned.
  *
@@ -262,7 +262,7 @@ static inline const char *cookie_store_status_text(enum cookie_store_status stat
     case COOKIE_STORE_HAS_STORE: return "the handle holds a store already";
     case COOKIE_STORE_NO_ROOM: return "the buffer is too short";
     case COOKIE_STORE_NOT_FOUND: return "no such cookie";
-    case COOKIE_STORE_BAD_LIMIT: return "the limit or the number of shards is 0";
+    case COOKIE_STORE_BAD_LIMIT: return "not a valid limit or number of shards";
     case COOKIE_STORE_BAD_OPTION: return "an unknown option";
     case COOKIE_STORE_BAD_RULE: return "a line of the list is not a rule";
     case COOKIE_STORE_BAD_JSON: return "not JSON";

@@ -105,7 +105,7 @@ func (s Status) Error() string { return "cookiestore: " + s.String() }
 // IsRejection reports whether the cookie was rejected. Otherwise the call failed. It holds of statuses that only a newer library
 // has too.
 func (s Status) IsRejection() bool {
-	return s >= 10 && s < 20 || s >= 40
+	return s >= 10 && s < 20 || s >= 40 && s < 100
 }
 
 // Error is an error of the store, such as a rejected cookie.

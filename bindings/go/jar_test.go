@@ -225,7 +225,7 @@ func TestOptionErrors(t *testing.T) {
 	if text := Status(99).Error(); text != "cookiestore: unknown status" {
 		t.Errorf("an unknown status is %q", text)
 	}
-	for status, want := range map[Status]bool{9: false, 19: true, ErrNoRules: false, ErrNoList: false, 39: false, ErrCrossSiteResponse: true, 48: true} {
+	for status, want := range map[Status]bool{9: false, 19: true, ErrNoRules: false, ErrNoList: false, 39: false, ErrCrossSiteResponse: true, 48: true, 99: true, 100: false} {
 		if got := status.IsRejection(); got != want {
 			t.Errorf("status %d: IsRejection is %v", int(status), got)
 		}

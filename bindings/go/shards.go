@@ -195,8 +195,8 @@ func (j *Jar) merge(s *shard, from *shard, now C.int64_t) (leftOut int, err erro
 	return int(count), err
 }
 
-// Root returns the root of the host of u: its outermost site under the list of the jar, or "" if u has no host. In a strict jar
-// with a list, a cookie that a host sets is sent only to hosts of the same root.
+// Root returns the root of the host of u: its outermost site under the list of the jar. In a strict jar with a list, a cookie
+// that a host sets is sent only to hosts of the same root.
 //
 // Mostly it is the registrable domain, such as example.co.uk for www.example.co.uk. But sites nest: *.kobe.jp is on the list of
 // publicsuffix.org, so that a.b.kobe.jp is a site, whose root is kobe.jp.

@@ -1,3 +1,5 @@
+export {}; // without it each type below would be exported
+
 declare global {
   interface SymbolConstructor {
     readonly dispose: unique symbol; // as of TypeScript 5.2
@@ -36,10 +38,9 @@ export type Failure =
   | 'BAD_JSON' | 'BAD_SHAPE' | 'BAD_RON' | 'BAD_EXPIRY' | 'BAD_LINE' | 'UNREPRESENTABLE';
 
 /**
- * A name of cookie_store.h without its prefix, or CROSS_SITE, by which a jar rejects a SameSite cookie of a cross-site request.
- * A newer library may have others, such as 'UNKNOWN_50'.
+ * A name of cookie_store.h without its prefix. A newer library may have others, such as 'UNKNOWN_50'.
  */
-export type Code = Accepted | Rejection | Failure | 'CROSS_SITE' | (string & {});
+export type Code = Accepted | Rejection | Failure | (string & {});
 
 /** The error of a call that fails. The store is unchanged, except by merge(). */
 export class CookieStoreError extends Error {
@@ -130,7 +131,7 @@ export interface PageOptions extends TimeOptions {
 export interface HeaderOptions extends PageOptions {
   /**
    * false for a cross-site request, whatever `page` is: one of a page of another site, or in a frame of one, or that was
-   * redirected by one. It is sent without cookies of SameSite=Strict and Lax.
+   * redirected by one. It is sent without cookies of SameSite=Strict, and unless `topLevel` of SameSite=Lax.
    */
   sameSite?: boolean;
 }
@@ -142,7 +143,7 @@ export type Format = 'json' | 'ron' | 'netscape';
 export type Which = 'all' | 'unexpired' | 'persistent';
 
 export interface LenientOptions extends TimeOptions {
-  /** Which cookies are saved, by default 'persistent', or loaded, by default 'unexpired'. */
+  /** Which cookies are saved or loaded, by default 'unexpired': most logins are session cookies. */
   which?: Which;
 }
 

@@ -30,7 +30,7 @@ async function main([file, ...urls]) {
   try {
     await printBodies(store, urls);
   } finally {
-    replaceFile(file, store.save({ which: 'unexpired' })); // session cookies, such as logins, too
+    replaceFile(file, store.save()); // session cookies, such as logins, too
   }
 }
 

@@ -59,13 +59,12 @@ function statusOf(code) {
 /** Returns whether a code is a reason why a cookie is rejected. */
 function isRejection(code) {
   const status = statusOf(code);
-  return (status >= 10 && status < 20) || status >= 40;
+  return (status >= 10 && status < 20) || (status >= 40 && status < 100);
 }
 
 /** What a code means here. The other texts are those of cookie_store.h. */
 const TEXTS = {
   NO_STORE: 'the store is closed',
-  CROSS_SITE: 'SameSite, and the request is cross-site',
 };
 
 /** Returns what a code means, in a few words. */

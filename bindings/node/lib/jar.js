@@ -171,7 +171,7 @@ class CookieJar {
   /** Returns why a cookie is rejected before the store gets it, or undefined. */
   #objection(cookie, isText, address, context) {
     if (cookie === undefined || !(isText || isSeparable(cookie))) return 'PARSE';
-    if (context === 'none' && /^(?:strict|lax)$/.test(cookie.sameSite)) return 'CROSS_SITE';
+    if (context === 'none' && /^(?:strict|lax)$/.test(cookie.sameSite)) return 'CROSS_SITE_RESPONSE';
     if (this.prefixSecurity !== 'unsafe-disabled' && breaksPrefix(cookie)) return 'PREFIX';
     // The header value of a host-only cookie has no domain, so that the store would take it from any host.
     if (!isText && cookie.hostOnly && cookie.domain && cookie.domain !== placeOf(address).host) return 'DOMAIN_MISMATCH';

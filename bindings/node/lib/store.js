@@ -227,11 +227,11 @@ class CookieStore {
     return this.#store.merge(other.#store, secondsOf(options?.now));
   }
 
-  save({ format = 'json', which = 'persistent', now } = {}) {
+  save({ format = 'json', which = 'unexpired', now } = {}) {
     return this.#store.save(optionOf(FORMATS, format), optionOf(WHICH, which), secondsOf(now))[0];
   }
 
-  saveLenient({ which = 'persistent', now } = {}) {
+  saveLenient({ which = 'unexpired', now } = {}) {
     const [list, leftOut] = this.#store.save(NETSCAPE_LENIENT, optionOf(WHICH, which), secondsOf(now));
     return { list, leftOut };
   }

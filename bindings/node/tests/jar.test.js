@@ -98,7 +98,7 @@ test('a rejected cookie is an error with a code', () => {
     ['a=1; Domain=b.example', 'http://a.example/', {}, 'DOMAIN_MISMATCH'],
     ['a=1; Domain=com', 'http://www.com/', {}, 'PUBLIC_SUFFIX'],
     ['a', 'http://a.example/', {}, 'PARSE'],
-    ['a=1; SameSite=Lax', 'http://a.example/', { sameSiteContext: 'none' }, 'CROSS_SITE'],
+    ['a=1; SameSite=Lax', 'http://a.example/', { sameSiteContext: 'none' }, 'CROSS_SITE_RESPONSE'],
     ['a=1', 'http://a.example/', { sameSiteContext: 'other' }, 'BAD_OPTION'],
     ['a=1', 'http://a.example/', { loose: true }, 'BAD_OPTION'],
     ['a=1', 'nowhere', {}, 'BAD_URL'],

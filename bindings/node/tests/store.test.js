@@ -409,9 +409,10 @@ test('the codes are those of the header', () => {
   for (const [code, number] of rows) {
     assert.equal(new CookieStoreError(number).code, code, `of ${number}`);
     assert.notEqual(statusText(code), 'unknown status', `the text of ${code}`);
-    assert.equal(isRejection(code), (number >= 10 && number < 20) || number >= 40, `whether ${code} is a rejection`);
+    assert.equal(isRejection(code), (number >= 10 && number < 20) || (number >= 40 && number < 100), `whether ${code} is a rejection`);
   }
-  compare([['UNKNOWN_50', true], ['UNKNOWN_38', false], ['NO_SUCH', false], [undefined, false]], isRejection);
+  const unknown = [['UNKNOWN_50', true], ['UNKNOWN_99', true], ['UNKNOWN_100', false], ['UNKNOWN_38', false]];
+  compare([...unknown, ['NO_SUCH', false], [undefined, false]], isRejection);
   assert.equal(new CookieStoreError(50).code, 'UNKNOWN_50');
 });
 

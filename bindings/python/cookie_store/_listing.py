@@ -8,7 +8,7 @@ from ._library import ROW, SAME_SITES
 
 
 class Cookie(NamedTuple):
-    """A stored cookie."""
+    """A stored cookie. Read its fields by their names: later versions may have more of them."""
     domain: str
     path: str
     name: str

@@ -85,12 +85,12 @@ class SavedStore(Handle):
             if _key(row) not in keys:
                 log_not_saved(row.domain, row.name, text_of(Status.UNREPRESENTABLE))
 
-    def dumps(self, format: Format = Format.JSON, which: Which = Which.PERSISTENT, now: Optional[Time] = None) -> str:
+    def dumps(self, format: Format = Format.JSON, which: Which = Which.UNEXPIRED, now: Optional[Time] = None) -> str:
         """Return the cookies in a format, in the order of the store, followed by a line feed.
 
-            store.dumps()                                  # the persistent cookies, in JSON
-            store.dumps(which=Which.UNEXPIRED)             # session cookies too, such as most logins
-            store.dumps(Format.NETSCAPE, Which.UNEXPIRED)  # the same, as a cookies.txt file
+            store.dumps()                        # the unexpired cookies, in JSON: session cookies too, such as most logins
+            store.dumps(Format.NETSCAPE)         # the same, as a cookies.txt file
+            store.dumps(which=Which.PERSISTENT)  # the persistent ones of these
 
         Which cookies have expired is decided at now. In JSON and RON, a cookie that was received with
         SameSite=None and without Secure is Secure in the store that is loaded from the list. A cookies.txt
@@ -108,7 +108,7 @@ class SavedStore(Handle):
         """
         return self._save(option_of(Format, format), which, now)[0]
 
-    def dumps_lenient(self, which: Which = Which.PERSISTENT, now: Optional[Time] = None) -> Tuple[str, int]:
+    def dumps_lenient(self, which: Which = Which.UNEXPIRED, now: Optional[Time] = None) -> Tuple[str, int]:
         """Return a cookies.txt file without the cookies that it cannot represent, and the number of these.
 
         All else is as in dumps() with Format.NETSCAPE. Raises BAD_OPTION.

@@ -41,7 +41,7 @@ class Status(enum.IntEnum):
     NOT_UTF8 -- not UTF-8
     BAD_TIME -- a time that is not in the years -9999 to 9999
     BAD_LIMIT -- a limit or a number of shards below 1
-    BAD_OPTION -- a number that is not one of Format or Which
+    BAD_OPTION -- a number that is not one of Format or Which, or a same_site that is no SameSite attribute
     BAD_RULE -- a line of a public suffix list is not a rule
     NO_RULES -- a public suffix list has no rules
     BAD_JSON, BAD_SHAPE -- not JSON; JSON, but not a list of cookies
@@ -101,6 +101,11 @@ class Status(enum.IntEnum):
         """Whether the call succeeded: the cookie is neither rejected nor an argument invalid."""
         return self < 10
 
+    @property
+    def is_rejection(self) -> bool:
+        """Whether the cookie was rejected. It holds of statuses that only a newer library has too."""
+        return is_reply(self) and not self.is_success
+
     @classmethod
     def _missing_(cls, value: object) -> Optional[Status]:
         """Return a status that only a newer library has: its meaning is that of its range, see cookie_store.h."""
@@ -132,7 +137,7 @@ TEXTS = {
     Status.HAS_STORE: 'the handle holds a store already',
     Status.NO_ROOM: 'the buffer is too short',
     Status.NOT_FOUND: 'no such cookie',
-    Status.BAD_LIMIT: 'the limit or the number of shards is 0',
+    Status.BAD_LIMIT: 'not a valid limit or number of shards',
     Status.BAD_OPTION: 'an unknown option',
     Status.BAD_RULE: 'a line of the list is not a rule',
     Status.BAD_JSON: 'not JSON',
@@ -156,7 +161,7 @@ TEXTS = {
 
 def text_of(status: Status) -> str:
     """Return what a status means, in a few words."""
-    return TEXTS.get(status, 'unknown status')
+    return 'the store is closed' if status is Status.NO_STORE else TEXTS.get(status, 'unknown status')
 
 
 #: The known statuses by their numbers: finding one here takes a fraction of the time of Status(number).
@@ -165,7 +170,7 @@ STATUSES = {int(status): status for status in Status}
 
 def is_reply(number: int) -> bool:
     """Return whether a status of an insertion is that the cookie was accepted, or why it was rejected."""
-    return number < 20 or number >= 40
+    return number < 20 or 40 <= number < 100
 
 
 #: The statuses of a URL or a header value that a client takes and the store does not.

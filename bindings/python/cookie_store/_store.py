@@ -48,7 +48,8 @@ class CookieStore(SavedStore):
     A method that fails raises CookieStoreError with the status of the library in its attribute
     status: NOT_UTF8 for a string that is not UTF-8, BAD_TIME for a time that is not in the years
     -9999 to 9999, NO_STORE after close(); or NoMemory. "Raises X" below means that the method can
-    also raise a CookieStoreError with status X. On any of these errors the store is unchanged.
+    also raise a CookieStoreError with status X. On any of these errors the store is unchanged, except by
+    merge().
     """
 
     def __init__(self, *, strict: bool = False) -> None:

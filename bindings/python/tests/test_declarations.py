@@ -55,6 +55,10 @@ class DeclarationTests(unittest.TestCase):
         texts = dict(re.findall(r'case COOKIE_STORE_(\w+): return "(.*)";', self.text))
         self.assertEqual(texts, {status.name: text for status, text in TEXTS.items()})
 
+    def test_ranges(self):
+        for number, is_rejection in [(9, False), (10, True), (19, True), (20, False), (39, False), (40, True), (99, True), (100, False)]:
+            self.assertIs(Status(number).is_rejection, is_rejection, number)
+
     def test_structs(self):
         for name, own in [('cookie_store', Store), ('cookie_store_row', Row)]:
             body = re.search(r'typedef struct %s \{(.*?)\}' % name, self.text, re.S).group(1)

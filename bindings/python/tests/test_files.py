@@ -149,7 +149,7 @@ class FileTests(unittest.TestCase):
         self.assertEqual([(row.name, row.host_only, row.has_path, row.expires) for row in store],
                          [('a', True, True, None), ('b', False, True, LAST)])
         self.assertEqual(store.dumps(Format.NETSCAPE, Which.ALL, NOW), FILE)
-        self.assertEqual(store.dumps(Format.NETSCAPE, now=LAST), '# Netscape HTTP Cookie File\n')
+        self.assertEqual(store.dumps(Format.NETSCAPE, Which.PERSISTENT, LAST), '# Netscape HTTP Cookie File\n')
         store.parse(f'http://{HOST}/', 'c=3\t4', NOW)
         with self.assertRaises(CookieStoreError) as raised:
             store.dumps(Format.NETSCAPE, Which.ALL)

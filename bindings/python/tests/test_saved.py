@@ -77,10 +77,10 @@ class SelectionTests(unittest.TestCase):
             self.assertEqual((names(loaded), malformed), (wanted, []), (which, now))
 
     def test_default_selections(self):
-        """Persistent cookies are saved, and session cookies are loaded too. The format is JSON."""
+        """Session cookies are saved and loaded too, and expired ones are not. The format is JSON."""
         store = filled('a=1; Max-Age=60', 'b=2', 'c=3; Max-Age=90')
-        self.assertEqual(store.dumps(now=NOW), store.dumps(Format.JSON, Which.PERSISTENT, NOW))
-        self.assertEqual(store.dumps_lenient(now=NOW), store.dumps_lenient(Which.PERSISTENT, NOW))
+        self.assertEqual(store.dumps(now=NOW), store.dumps(Format.JSON, Which.UNEXPIRED, NOW))
+        self.assertEqual(store.dumps_lenient(now=NOW), store.dumps_lenient(Which.UNEXPIRED, NOW))
         text, lines = store.dumps(which=Which.ALL, now=NOW), store.dumps(Format.NETSCAPE, Which.ALL, NOW)
         self.assertEqual(names(CookieStore.loads(text, now=NOW + 60)), 'bc')
         self.assertEqual(names(CookieStore.loads_lenient(lines, now=NOW + 60)[0]), 'bc')

@@ -398,6 +398,7 @@ class StoreTests(unittest.TestCase):
         self.assertEqual((len(store), store.strict, store.domain_limit), (0, False, None))
         for name, call in CLOSED:
             self.assert_raises(name, Status.NO_STORE, call, store)
+        self.assertEqual(str(CookieStoreError(Status.NO_STORE)), 'the store is closed')
 
     def test_freed(self):
         store = filled('a=1')

@@ -6,6 +6,7 @@ use crate::time::seconds;
 /// The SameSite attribute of a cookie: which cross-site requests have it,
 /// draft-ietf-httpbis-rfc6265bis 5.8.3.
 #[derive(Clone, Copy, Debug, PartialEq, Eq, Hash)]
+#[non_exhaustive]
 pub enum SameSite {
     /// None.
     Strict,

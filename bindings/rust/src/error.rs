@@ -2,7 +2,7 @@ use std::{fmt, io};
 
 use crate::sys;
 
-/// Why a call failed. The store is unchanged.
+/// Why a call failed. The store is unchanged, except by [`merge`](crate::CookieStore::merge).
 #[derive(Clone, Copy, Debug, PartialEq, Eq)]
 #[non_exhaustive]
 pub enum Error {
@@ -104,7 +104,7 @@ impl Error {
                 | Error::SecureStored
                 | Error::SecureLimit
                 | Error::CrossSiteResponse
-                | Error::Unexpected(10..=19 | 40..)
+                | Error::Unexpected(10..=19 | 40..=99)
         )
     }
 
@@ -229,6 +229,8 @@ mod tests {
             (Error::Unexpected(39), false),
             (Error::CrossSiteResponse, true),
             (Error::Unexpected(48), true),
+            (Error::Unexpected(99), true),
+            (Error::Unexpected(100), false),
         ] {
             assert_eq!(error.is_rejection(), expected, "{error}");
         }

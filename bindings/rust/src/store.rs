@@ -20,6 +20,7 @@ pub const SYSTEM_SUFFIX_FILE: &str = "/usr/share/publicsuffix/public_suffix_list
 
 /// What [`CookieStore::parse`] or another call that inserts a cookie did.
 #[derive(Clone, Copy, Debug, PartialEq, Eq)]
+#[non_exhaustive]
 pub enum StoreAction {
     /// The cookie was inserted: none with its domain, path and name was stored.
     Inserted,
@@ -28,6 +29,9 @@ pub enum StoreAction {
     ExpiredExisting,
     /// The cookie replaced the stored one, expired or not, with the same domain, path and name.
     UpdatedExisting,
+    /// A status of success that this version of the crate does not expect, from another version of the
+    /// library.
+    Unexpected(u32),
 }
 
 impl StoreAction {
@@ -36,6 +40,7 @@ impl StoreAction {
             sys::COOKIE_STORE_INSERTED => Ok(StoreAction::Inserted),
             sys::COOKIE_STORE_UPDATED => Ok(StoreAction::UpdatedExisting),
             sys::COOKIE_STORE_EXPIRED_EXISTING => Ok(StoreAction::ExpiredExisting),
+            status if status < 10 => Ok(StoreAction::Unexpected(status)),
             status => Err(Error::new(status, 0)),
         }
     }
@@ -78,7 +83,7 @@ impl CrossSite {
 /// The time of a call is its argument `now`, usually [`SystemTime::now`]. It must be in the years
 /// -9999 to 9999. A cookie has expired if its expiry time is `now` or earlier.
 ///
-/// A method that returns an error leaves the store unchanged.
+/// A method that returns an error leaves the store unchanged, except [`merge`](CookieStore::merge).
 //
 // SAFETY of the calls below: the handle is initialized, empty or with a store; no other call uses it
 // meanwhile, since a store is not `Sync` and no call calls back; pointers come from references and
@@ -676,11 +681,7 @@ impl CookieStore {
 
     /// Returns an empty handle.
     fn empty() -> CookieStore {
-        CookieStore(UnsafeCell::new(sys::cookie_store {
-            live: false,
-            strict: false,
-            at: ptr::null_mut(),
-        }))
+        CookieStore(UnsafeCell::new(sys::COOKIE_STORE_INIT))
     }
 }
 
@@ -695,7 +696,19 @@ fn random_key() -> [u8; 16] {
 
 #[cfg(test)]
 mod tests {
-    use super::random_key;
+    use super::{random_key, StoreAction};
+    use crate::Error;
+
+    #[test]
+    fn each_success_is_an_action() {
+        for (status, expected) in [
+            (2, Ok(StoreAction::UpdatedExisting)),
+            (9, Ok(StoreAction::Unexpected(9))),
+            (13, Err(Error::Expired)),
+        ] {
+            assert_eq!(StoreAction::of(status), expected, "{status}");
+        }
+    }
 
     #[test]
     fn both_halves_of_a_key_are_random() {
