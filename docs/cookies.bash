@@ -7,11 +7,11 @@ _cookies() {
         before=${COMP_WORDS[COMP_CWORD - 2]}
     fi
     case $before in
-        --to) mapfile -t COMPREPLY < <(compgen -W 'json jsonl ron txt' -- "$word"); return ;;
+        --to) mapfile -t COMPREPLY < <(compgen -W 'json jsonl ron sqlite txt' -- "$word"); return ;;
         --format | --from)
             case ${COMP_WORDS[1]} in
-                set | remove | purge) mapfile -t COMPREPLY < <(compgen -W 'json jsonl ron txt' -- "$word") ;;
-                *) mapfile -t COMPREPLY < <(compgen -W 'json jsonl ron txt browser playwright' -- "$word") ;;
+                set | remove | purge) mapfile -t COMPREPLY < <(compgen -W 'json jsonl ron sqlite txt' -- "$word") ;;
+                *) mapfile -t COMPREPLY < <(compgen -W 'json jsonl ron sqlite txt browser playwright' -- "$word") ;;
             esac
             return ;;
         --now | --domain | --set-cookie) return ;;

@@ -1,11 +1,12 @@
 pub mod CallPrefixes
 pub mod CallSteps
 pub mod CommittedCalls
-pub mod ExpiredKeys
 pub mod GoneIds
 pub mod IdsByKey
 pub mod KeptRows
+pub mod LeftRows
 pub mod LoadedRows
+pub mod NewRows
 pub mod OpenedFiles
 pub mod ReadRows
 pub mod RowEdits

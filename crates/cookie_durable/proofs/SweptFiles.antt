@@ -1,15 +1,16 @@
 -- What a file holds after the rows of cookies that are gone were deleted.
-use Rattle.std.proofs.Common.{◌≡◌, ℕ, ℤ, List, [], map, sym, subst}
+use Rattle.std.proofs.Common.{◌≡◌, ℕ, ℤ, Bool, List, [], map, sym, subst}
 use Rattle.sqlite_trees.specs.View.{View}
 use Rattle.cookie_words.specs.Moments.{Moment}
-use Rattle.cookie_laws.specs.Contents.{Contents, unexpired}
+use Rattle.cookie_parts.specs.Cookie.{Row}
+use Rattle.cookie_laws.specs.Contents.{Contents, retained, unexpired}
 use Rattle.durable_table.specs.Changes.{after}
 use Rattle.durable_table.specs.declared.change.Change.{Change}
 use Rattle.durable_table.specs.declared.change.Change.TheVariants.{Delete}
 use Rattle.cookie_durable.specs.Durable.{IsSaved}
 use Rattle.cookie_durable.specs.Numbering.{Ids, IsNumbered}
 use Rattle.cookie_durable.specs.Sweeping.{AreDistinct, Shrinks, gone_ids, kept_ids}
-use Rattle.cookie_durable.proofs.ExpiredKeys.{unexpired-shrinks}
+use Rattle.cookie_durable.proofs.LeftRows.{retained-shrinks, unexpired-shrinks}
 use Rattle.cookie_durable.proofs.SweptRows.{swept}
 
 -- the expired cookies were removed
@@ -17,6 +18,12 @@ pub expired_shrinks : (before store : Contents) (now : Moment) (ids : Ids) (next
     → IsSaved before ids next table v → Shrinks before store
 expired_shrinks before store now ids next table v is saved =
     subst (Shrinks before) (sym is) (unexpired-shrinks before now saved.numbered.unlimited saved.numbered.order)
+
+-- the cookies that fail a test were removed
+pub retained_shrinks : (before store : Contents) (test : Row → Bool) (ids : Ids) (next : ℤ) (table : ℕ) (v : View) → store ≡ retained test before
+    → IsSaved before ids next table v → Shrinks before store
+retained_shrinks before store test ids next table v is saved =
+    subst (Shrinks before) (sym is) (retained-shrinks before test saved.numbered.unlimited saved.numbered.order)
 
 -- cookies were removed
 module _ (before store : Contents) (ids new_ids : Ids) (next : ℤ) (table : ℕ) (v : View) (changes : List Change)

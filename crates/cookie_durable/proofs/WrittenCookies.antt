@@ -201,6 +201,13 @@ module _ (before store : Contents) (key : Key) (ids new_ids : Ids) (next : ℤ) 
       → IsNumbered store new_ids new_next (after (option_to_list change) rows)
   written new_next change writes = by_change new_next change (row_of key store.rows) (id_of key ids) refl refl writes
 
+-- no rows are left after those of all rowids were deleted
+pub none_left : (store : Contents) (ids : Ids) (next : ℤ) (rows : List TableRow) → IsNumbered store ids next rows
+    → after (map Delete (values_of ids)) rows ≡ []
+none_left store ids next rows numbered =
+    all_deleted (values_of ids) rows (zip_rows (IsRowOf store ids) (λ (row : TableRow). has_one (values_of ids) row ≡ true)
+    (λ key row is. among_values key ids row is.0) store.created rows numbered.saved)
+
 -- the rows after all cookies were removed
 pub cleared : (store : Contents) (ids : Ids) (next : ℤ) (rows : List TableRow) → IsNumbered store ids next rows
     → IsNumbered (step Clear store).store [] next (after (map Delete (values_of ids)) rows)
@@ -213,6 +220,4 @@ cleared store ids next rows numbered =
       ascending = tt;
       below = tt;
     } in
-    subst (IsNumbered (step Clear store).store [] next)
-    (sym (all_deleted (values_of ids) rows (zip_rows (IsRowOf store ids) (λ (row : TableRow). has_one (values_of ids) row ≡ true)
-    (λ key row is. among_values key ids row is.0) store.created rows numbered.saved))) none
+    subst (IsNumbered (step Clear store).store [] next) (sym (none_left store ids next rows numbered)) none

@@ -1,5 +1,6 @@
 -- Cookies that cannot be written, and why calls fail.
-use Rattle.std.specs.Prelude.{◌≡◌, ℕ, ◌+◌, ℤ, pos, Bool, ◌||◌, IsTrue, List, length, nat_lt, is_some, Option, Some, None}
+use Rattle.std.specs.Prelude.{◌≡◌, ◌<◌, ℕ, ◌+◌, ℤ, pos, Bool, ◌||◌, IsTrue, List, length, nat_lt, is_some, Option, Some, None}
+use Rattle.std.specs.List.{list_any}
 use Rattle.std.specs.Result.{result_ok}
 use Rattle.cookie_words.specs.Moments.{Moment}
 use Rattle.cookie_parts.specs.Cookie.{Row, cookie_from_header}
@@ -36,9 +37,13 @@ cookie_of_call (Set text url now) = result_ok (cookie_from_header text url now)
 cookie_of_call (Insert cookie url now) = Some cookie
 cookie_of_call other = None
 
+-- how many rowids there are from 1 on
+abbrev pub most_rowids : ℕ
+most_rowids = 9_223_372_036_854_775_807
+
 -- the greatest rowid that there is
 abbrev pub greatest_rowid : ℤ
-greatest_rowid = pos 9_223_372_036_854_775_807
+greatest_rowid = pos most_rowids
 
 -- why a call may fail that is to insert this cookie, if there is one; only such a call finds it unstorable, or no rowid left
 abbrev pub IsReasonFor : {S : Type 0} → DurableError → Durable S → (Row → Bool) → Option Row → Type 0
@@ -56,3 +61,16 @@ IsReasonOf error d call = IsReasonFor error d is_unstorable (cookie_of_call call
 -- later
 abbrev pub is_unstorable_at : Moment → Row → Bool
 is_unstorable_at now cookie = is_early now || is_unstorable cookie
+
+-- why cookies cannot be the rows of a table
+abbrev pub IsReasonAgainstRows : DurableError → List Row → Type 0
+IsReasonAgainstRows Unstorable cookies = IsTrue (list_any is_unstorable cookies)
+IsReasonAgainstRows Full cookies = most_rowids < length cookies
+IsReasonAgainstRows OutOfMemory cookies = Unit {0}
+IsReasonAgainstRows other cookies = ⊥
+
+-- why cookies may not replace those of a store
+abbrev pub IsReasonAgainst : {S : Type 0} → DurableError → Durable S → List Row → Type 0
+IsReasonAgainst Failed d cookies = IsTrue d.is_failed
+IsReasonAgainst (NotWritten cause) d cookies = Unit {0}
+IsReasonAgainst other d cookies = IsReasonAgainstRows other cookies

@@ -2,6 +2,7 @@
 ghost use Rattle.std.specs.Prelude.{◌≡◌, ◌↔◌, ◌⊎◌, ◌<◌, ◌^◌, Err, IfErr, IfOk, IsTrue};
 ghost use Rattle.std.specs.Option.{option_copied};
 ghost use Rattle.cookie_laws.specs.Rows.{key_of};
+ghost use Rattle.cookie_table.specs.Columns.{table_row};
 ghost use Rattle.cookie_durable.specs.Checks.{greatest_rowid, is_unstorable, len_if_any, text_len};
 ghost use Rattle.cookie_durable.specs.Numbering.{key_in};
 
@@ -11,6 +12,7 @@ use cookie_forms::SavedError;
 use cookie_parts::Cookie;
 use cookie_table::to_row;
 use sqlite_trees::store::Store;
+use sqlite_value::row::Row;
 use std::alloc::Global;
 
 // A row may have a billion bytes, with 18 for each value: the rest is left for these and for times.
@@ -36,7 +38,7 @@ impl<S: Store> DurableStore<S> {
         ensures errors { IfErr result (λ e. ((e ≡ DurableError.Unstorable) × IsTrue (is_unstorable cookie.now))
             ⊎ (((e ≡ DurableError.Full) × (self.now.next ≡ greatest_rowid)) ⊎ (e ≡ DurableError.OutOfMemory))) }
     {
-        check_cookie(alloc, cookie)?;
+        row_for(alloc, 0, cookie)?;
         if self.next == i64::MAX {
             return Err(DurableError::Full);
         }
@@ -50,16 +52,24 @@ impl<S: Store> DurableStore<S> {
     }
 }
 
-// Checks whether the cookie can be written, if a rowid is left.
-fn check_cookie(alloc: Global, cookie: &Cookie<'static>) -> Result<(), DurableError>
+/// Returns the row of this rowid that holds the cookie.
+///
+/// # Errors
+///
+/// In the order in which they are checked:
+/// - `Unstorable`: its strings have more than 999,999,000 bytes together, or its expiry or Expires
+///   attribute is before the year 0.
+/// - `OutOfMemory`: out of memory.
+pub(crate) fn row_for(alloc: Global, id: i64, cookie: &Cookie<'static>) -> Result<Row, DurableError>
+    ensures row { IfOk result (λ row. row ≡ table_row id cookie.now) }
     ensures unstorable { IsTrue (is_unstorable cookie.now) ↔ (result ≡ Err DurableError.Unstorable) }
     ensures errors { IfErr result (λ e. (e ≡ DurableError.Unstorable) ⊎ (e ≡ DurableError.OutOfMemory)) }
 {
     if text_len(cookie) > MOST_TEXT {
         return Err(DurableError::Unstorable);
     }
-    match to_row(alloc, 0, cookie) {
-        Ok(_) => Ok(()),
+    match to_row(alloc, id, cookie) {
+        Ok(row) => Ok(row),
         Err(SavedError::Memory) => Err(DurableError::OutOfMemory),
         Err(_) => Err(DurableError::Unstorable),
     }

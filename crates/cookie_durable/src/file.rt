@@ -61,7 +61,8 @@ impl<S: Start> DurableStore<FileStore<FileFrom<S>>> {
     /// # Errors
     ///
     /// In the order in which they are checked; the cookies of the file are unchanged:
-    /// - `System`: the system cannot open or create the file, or it has a second name.
+    /// - `System`: the system has no random bytes, cannot open or create the file, or it has a second
+    ///   name.
     /// - `Locked`: another process or store has the file open.
     /// - `Journal`: SQLite left a rollback journal.
     /// - `Foreign`: the file is not a SQLite file with the table `cookies` and nothing else.
@@ -82,16 +83,16 @@ impl<S: Start> DurableStore<FileStore<FileFrom<S>>> {
         ensures found { IfOk result (λ d. IsClean (view d.file) → FindsCookies keep_session (image_at S.Start) d.store) }
         ensures guarded { IfOk result (λ d. IsClean (view d.file) → is_shielded d.file) }
     {
+        let options = match options(rt) {
+            Ok(options) => options,
+            Err(error) => return Err(OpenError::of_system(error.kind())),
+        };
         if let Err(error) = make_private(rt, path) {
             return Err(OpenError::of_system(error.kind()));
         }
         let files = match sqlite_std_file::open(rt, path, start) {
             Ok(files) => files,
             Err(error) => return Err(OpenError::from(error)),
-        };
-        let options = match options(rt) {
-            Ok(options) => options,
-            Err(error) => return Err(OpenError::of_system(error.kind())),
         };
         match DurableStore::open_files(rt.alloc(), files, options, keep_session) {
             Ok(opened) => Ok(opened),

@@ -49,13 +49,13 @@ pub(crate) fn load<S: Store>(
     ensures unwritten { OnOk result (IsClean (S.Store.view file.new) → IsUnwritten (S.Store.view file.old) (S.Store.view file.new)) }
     ensures quiet { IsQuiet S.Store.view S.Store.faults S.Store.recovers S.Store.is_shielded file.old file.new }
 {
+    let first = Row::new(alloc.alloc);
+    file.seek(0, table, &first, Direction::Forward)?;
     let mut loaded = Loaded {
         rows: Rows::new(alloc),
         ids: IndexMap::with_hasher(alloc.alloc, alloc.hash_key),
         next: 1,
     };
-    let first = Row::new(alloc.alloc);
-    file.seek(0, table, &first, Direction::Forward)?;
     let mut row = Row::new(alloc.alloc);
     'rows: for _ in 0..u64::MAX {
         if !file.next(0, &mut row)? {
@@ -72,13 +72,13 @@ fn add(alloc: Global, loaded: &mut Loaded, row: &Row) -> Result<(), OpenError>
         → IsNumbered (contents_of loaded.old.rows None None) loaded.old.ids.entries loaded.old.next rows
         → IsNumbered (contents_of loaded.new.rows None None) loaded.new.ids.entries loaded.new.next (rows ++ row.now ∷ [])) }
 {
-    let cookie = read_cookie(alloc, row)?;
     let ValueRef::Int(id) = row.get(0) else {
         return Err(OpenError::Damaged);
     };
     let Some(next) = id.checked_add(1) else {
         return Err(OpenError::Full);
     };
+    let cookie = read_cookie(alloc, row)?;
     let names = names_of(
         alloc,
         cookie.domain.as_str(),

@@ -1,8 +1,8 @@
 //! Parses the command line.
 use crate::command_line::command_line;
 use crate::error::{Failure, Usage};
-use crate::format::{FileFormat, InputFormat};
-use crate::options::{Command, CookieFile, InputFile, Key, Request, SuffixFile};
+use crate::format::{InputFormat, OutputFormat};
+use crate::options::{Command, CookieFile, InputFile, Key, OutputFile, Request, SuffixFile};
 use crate::purge::Purge;
 use clap::ArgMatches;
 use clap::error::ErrorKind;
@@ -109,20 +109,19 @@ fn explain<'a>(alloc: Global, matches: &ArgMatches<'a>) -> Result<Command<'a>, F
 }
 
 fn set<'a>(alloc: Global, matches: &ArgMatches<'a>) -> Result<Command<'a>, Failure<'a>> {
-    let url = url(alloc, matches)?;
-    let file = cookie_file(matches, "FILE", "format", "--format")?;
+    let name = word(matches, "FILE")?;
     Ok(Command::Set {
-        url,
+        url: url(alloc, matches)?,
         value: word(matches, "SET-COOKIE")?,
-        file,
-        suffixes: suffixes(matches, Some(file.name))?,
+        file: output_file(matches, name, "format", "--format")?,
+        suffixes: suffixes(matches, Some(name))?,
         context: context(matches, false),
     })
 }
 
 fn remove<'a>(matches: &ArgMatches<'a>) -> Result<Command<'a>, Usage<'a>> {
     Ok(Command::Remove {
-        file: cookie_file(matches, "FILE", "format", "--format")?,
+        file: output_file(matches, word(matches, "FILE")?, "format", "--format")?,
         key: Key {
             domain: word(matches, "DOMAIN")?,
             path: word(matches, "PATH")?,
@@ -133,7 +132,7 @@ fn remove<'a>(matches: &ArgMatches<'a>) -> Result<Command<'a>, Usage<'a>> {
 
 fn purge<'a>(matches: &ArgMatches<'a>) -> Result<Command<'a>, Usage<'a>> {
     Ok(Command::Purge {
-        file: cookie_file(matches, "FILE", "format", "--format")?,
+        file: output_file(matches, word(matches, "FILE")?, "format", "--format")?,
         purge: Purge::of_options(
             matches.get_flag("expired"),
             matches.get_flag("session"),
@@ -145,7 +144,7 @@ fn purge<'a>(matches: &ArgMatches<'a>) -> Result<Command<'a>, Usage<'a>> {
 fn convert<'a>(matches: &ArgMatches<'a>) -> Result<Command<'a>, Usage<'a>> {
     Ok(Command::Convert {
         input: input_file(matches, "IN", "from", "--from")?,
-        output: cookie_file(matches, "OUT", "to", "--to")?,
+        output: output_file(matches, word(matches, "OUT")?, "to", "--to")?,
         skips_unrepresentable: matches.get_flag("skip-unrepresentable"),
     })
 }
@@ -155,20 +154,21 @@ fn word<'a>(matches: &ArgMatches<'a>, id: &'static str) -> Result<&'a str, Usage
     matches.get_str(id).ok_or(Usage::Missing(id))
 }
 
-// Returns the file of an argument, in the format of an option or of the file's suffix.
-fn cookie_file<'a>(
+// Returns the file of a name, in the format of an option or of the name's suffix.
+fn output_file<'a>(
     matches: &ArgMatches<'a>,
-    id: &'static str,
+    name: &'a str,
     option_id: &str,
     option: &'static str,
-) -> Result<CookieFile<'a>, Usage<'a>> {
-    let name = word(matches, id)?;
+) -> Result<OutputFile<'a>, Usage<'a>> {
     let format = match matches.get_str(option_id) {
-        Some(format) => FileFormat::of_name(format),
-        None => FileFormat::of_file_name(name),
+        Some(format) => OutputFormat::of_name(format),
+        None => OutputFormat::of_file_name(name),
     };
     match format {
-        Some(format) => Ok(CookieFile { name, format }),
+        Some(OutputFormat::File(format)) => Ok(OutputFile::File(CookieFile { name, format })),
+        Some(OutputFormat::Sqlite) if name == "-" => Err(Usage::SqliteStream),
+        Some(OutputFormat::Sqlite) => Ok(OutputFile::Sqlite(name)),
         None => Err(Usage::UnknownFormat(name, option)),
     }
 }
@@ -187,6 +187,7 @@ fn input_file<'a>(
         None => InputFormat::of_file_name(name),
     };
     match format {
+        Some(InputFormat::Output(OutputFormat::Sqlite)) if name == "-" => Err(Usage::SqliteStream),
         Some(format) => Ok(InputFile {
             name,
             format,

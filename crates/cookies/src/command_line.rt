@@ -40,9 +40,9 @@ fn with_writers<'a>(alloc: Global, command: Command<'a>) -> Result<Command<'a>, 
 
 /// What the help says after the commands.
 const AFTER_HELP: &str = "\
-A file has the format of its suffix: .json, .jsonl, .ron or .txt. What extensions
-of browsers and Playwright export is read by --format browser and --format
-playwright. The name - is standard input or standard output.";
+A file has the format of its suffix: .json, .jsonl, .ron, .sqlite or .txt. What
+extensions of browsers and Playwright export is read by --format browser and
+--format playwright. The name - is standard input or standard output.";
 
 fn show<'a>(alloc: Global) -> Result<Command<'a>, AllocError> {
     let command = Command::new(alloc, "show")

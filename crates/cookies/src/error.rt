@@ -7,12 +7,14 @@ ghost use Rattle.cookies.specs.ExitStatuses.{status_of};
 use crate::escape::escaped;
 use crate::files::{input_name, output_name};
 use crate::format::Export;
+use cookie_durable::{DurableError, OpenError};
 use cookie_inputs::SuffixesError;
 use cookie_store::netscape::NetscapeError;
 use cookie_store::serde::{FormatError, MigrateError};
 use cookie_store::strict::StrictError;
 use cookie_store::{CookieError, Error};
-use std::alloc::{AllocError, Global};
+use sqlite_trees::error::StoreError;
+use std::alloc::{AllocError, AllocFailed, Global};
 use std::{fmt, io};
 
 /// Why the command line is wrong.
@@ -32,6 +34,8 @@ pub enum Usage<'a> {
     BadUrl(&'a str),
     /// Standard input is to hold the cookies and the public suffix list.
     InputTwice,
+    /// Standard input or standard output is to be a SQLite file.
+    SqliteStream,
 }
 
 impl fmt::Display for Usage<'_> {
@@ -46,6 +50,7 @@ impl fmt::Display for Usage<'_> {
             Usage::BadTime(text) => write!(f, "{text}: not a time such as 2026-01-31T23:59:59Z"),
             Usage::BadUrl(text) => write!(f, "{text}: not a URL"),
             Usage::InputTwice => f.write_str("standard input is named twice"),
+            Usage::SqliteStream => f.write_str("- cannot be a SQLite file"),
         }
     }
 }
@@ -75,6 +80,22 @@ pub enum FileError {
     Descriptor,
     /// A cookie for a header has a control character of ASCII other than HTAB.
     ControlCharacter,
+    /// A SQLite file or its log is not a regular file, or has another name too.
+    Irregular,
+    /// Another program has the SQLite file locked.
+    Locked,
+    /// SQLite left a rollback journal beside it.
+    Journal,
+    /// It is not a SQLite file with the table of cookies and nothing else.
+    Foreign,
+    /// It is a damaged SQLite file, or one of its rows is not a cookie.
+    Damaged,
+    /// Its table has no rowid left.
+    NoRowid,
+    /// A cookie has too long strings for a row, or a time before the year 0.
+    Unstorable,
+    /// Reading or writing the SQLite file failed.
+    Database(StoreError),
 }
 
 impl FileError {
@@ -115,6 +136,20 @@ impl fmt::Display for FileError {
             FileError::ControlCharacter => {
                 f.write_str("a cookie of the request has a control character")
             }
+            FileError::Irregular => {
+                f.write_str("it or its log is not a regular file with one name")
+            }
+            FileError::Locked => f.write_str("another program has it locked"),
+            FileError::Journal => {
+                f.write_str("SQLite left a rollback journal beside it, open it with sqlite3 first")
+            }
+            FileError::Foreign => f.write_str("not a SQLite file of cookies"),
+            FileError::Damaged => f.write_str("damaged, or a row is not a cookie"),
+            FileError::NoRowid => f.write_str("the table has no rowid left"),
+            FileError::Unstorable => {
+                f.write_str("a cookie is too long for a row, or has a time before the year 0")
+            }
+            FileError::Database(error) => error.fmt(f),
         }
     }
 }
@@ -155,9 +190,54 @@ impl From<AllocError> for FileError {
     }
 }
 
+impl<T: Drop> From<AllocFailed<T>> for FileError {
+    fn from(_error: AllocFailed<T>) -> FileError {
+        FileError::from(Error::Memory)
+    }
+}
+
 impl From<SuffixesError> for FileError {
     fn from(error: SuffixesError) -> FileError {
         FileError::Suffixes(error)
+    }
+}
+
+impl From<OpenError> for FileError {
+    fn from(error: OpenError) -> FileError {
+        match error {
+            OpenError::System(io::ErrorKind::Unsupported) => FileError::Irregular,
+            OpenError::System(kind) => FileError::from(io::Error::from(kind)),
+            OpenError::Locked => FileError::Locked,
+            OpenError::Journal => FileError::Journal,
+            OpenError::Foreign => FileError::Foreign,
+            OpenError::Damaged => FileError::Damaged,
+            OpenError::Full => FileError::NoRowid,
+            OpenError::OutOfMemory => FileError::from(Error::Memory),
+            OpenError::File(error) => FileError::from(error),
+        }
+    }
+}
+
+impl From<DurableError> for FileError {
+    fn from(error: DurableError) -> FileError {
+        match error {
+            // no command calls a store again after `NotWritten`
+            DurableError::Failed => FileError::Database(StoreError::Broken),
+            DurableError::Full => FileError::NoRowid,
+            DurableError::Unstorable => FileError::Unstorable,
+            DurableError::OutOfMemory => FileError::from(Error::Memory),
+            DurableError::NotWritten(error) => FileError::from(error),
+        }
+    }
+}
+
+impl From<StoreError> for FileError {
+    fn from(error: StoreError) -> FileError {
+        match error {
+            StoreError::OutOfMemory => FileError::from(Error::Memory),
+            StoreError::Unstorable => FileError::Unstorable,
+            error => FileError::Database(error),
+        }
     }
 }
 

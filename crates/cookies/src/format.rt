@@ -1,11 +1,11 @@
 //! The formats of files of cookies.
 ghost use Rattle.std.specs.Prelude.{◌≡◌};
-ghost use Rattle.cookies.specs.FileFormats.{format_of_file_name, format_of_name, input_format_of_file_name, input_format_of_name, is_cookies_txt};
+ghost use Rattle.cookies.specs.FileFormats.{format_of_name, input_format_of_file_name, input_format_of_name, is_cookies_txt, output_format_of_file_name, output_format_of_name};
 
 use cookie_store::serde::Format;
 use std::path::Path;
 
-/// The format of a file of cookies.
+/// The format of a file that is read and written whole.
 #[derive(Clone, Copy, Debug, PartialEq, Eq)]
 pub enum FileFormat {
     /// A format of the library.
@@ -14,8 +14,17 @@ pub enum FileFormat {
     JsonLines,
 }
 
+/// The format of a file that is written.
+#[derive(Clone, Copy, Debug, PartialEq, Eq)]
+pub enum OutputFormat {
+    /// A file that is written whole.
+    File(FileFormat),
+    /// A SQLite file with a row for each cookie.
+    Sqlite,
+}
+
 /// The names of these formats, as `--format` takes them.
-pub const FORMAT_NAMES: [&str; 4] = ["json", "jsonl", "ron", "txt"];
+pub const FORMAT_NAMES: [&str; 5] = ["json", "jsonl", "ron", "sqlite", "txt"];
 
 /// A format that is only read: what another program exports, in JSON.
 #[derive(Clone, Copy, Debug, PartialEq, Eq)]
@@ -30,13 +39,21 @@ pub enum Export {
 #[derive(Clone, Copy, Debug, PartialEq, Eq)]
 pub enum InputFormat {
     /// A format that is written too.
-    File(FileFormat),
+    Output(OutputFormat),
     /// A format that is only read.
     Export(Export),
 }
 
 /// The names of the formats that are read.
-pub const INPUT_FORMAT_NAMES: [&str; 6] = ["json", "jsonl", "ron", "txt", "browser", "playwright"];
+pub const INPUT_FORMAT_NAMES: [&str; 7] = [
+    "json",
+    "jsonl",
+    "ron",
+    "sqlite",
+    "txt",
+    "browser",
+    "playwright",
+];
 
 impl FileFormat {
     /// Returns the format with this name.
@@ -52,21 +69,35 @@ impl FileFormat {
         }
     }
 
-    /// Returns the format that the suffix of a file name stands for: what follows its last dot.
-    pub fn of_file_name(file_name: &str) -> Option<FileFormat>
-        ensures { result ≡ format_of_file_name file_name.now }
-    {
-        match Path::new(file_name).extension() {
-            Some(suffix) => FileFormat::of_name(suffix),
-            None => None,
-        }
-    }
-
     /// Returns whether this is the format of a `cookies.txt`.
     pub fn is_cookies_txt(self) -> bool
         ensures { result ≡ is_cookies_txt self }
     {
         matches!(self, FileFormat::Saved(Format::Netscape))
+    }
+}
+
+impl OutputFormat {
+    /// Returns the format with this name.
+    #[tactic(auto, unfolding(crate::specs::FileFormats::output_format_of_name))]
+    pub fn of_name(name: &str) -> Option<OutputFormat>
+        ensures { result ≡ output_format_of_name name.now }
+    {
+        if name == "sqlite" {
+            Some(OutputFormat::Sqlite)
+        } else {
+            Some(OutputFormat::File(FileFormat::of_name(name)?))
+        }
+    }
+
+    /// Returns the format that the suffix of a file name stands for: what follows its last dot.
+    pub fn of_file_name(file_name: &str) -> Option<OutputFormat>
+        ensures { result ≡ output_format_of_file_name file_name.now }
+    {
+        match Path::new(file_name).extension() {
+            Some(suffix) => OutputFormat::of_name(suffix),
+            None => None,
+        }
     }
 }
 
@@ -81,7 +112,7 @@ impl InputFormat {
         } else if name == "playwright" {
             Some(InputFormat::Export(Export::Playwright))
         } else {
-            Some(InputFormat::File(FileFormat::of_name(name)?))
+            Some(InputFormat::Output(OutputFormat::of_name(name)?))
         }
     }
 
@@ -89,6 +120,6 @@ impl InputFormat {
     pub fn of_file_name(file_name: &str) -> Option<InputFormat>
         ensures { result ≡ input_format_of_file_name file_name.now }
     {
-        Some(InputFormat::File(FileFormat::of_file_name(file_name)?))
+        Some(InputFormat::Output(OutputFormat::of_file_name(file_name)?))
     }
 }

@@ -5,8 +5,10 @@
 #![tactic(auto)]
 
 mod arguments;
+mod changing;
 mod columns;
 mod command_line;
+mod database;
 mod domain;
 mod edit;
 mod error;
@@ -21,6 +23,7 @@ mod options;
 mod purge;
 mod request;
 mod run;
+mod runner;
 mod storage;
 mod table;
 

@@ -12,6 +12,15 @@ pub struct CookieFile<'a> {
     pub format: FileFormat,
 }
 
+/// A file that is written.
+#[derive(Clone, Copy, Debug, PartialEq, Eq)]
+pub enum OutputFile<'a> {
+    /// A file that is written whole.
+    File(CookieFile<'a>),
+    /// The SQLite file of this name, in which rows change.
+    Sqlite(&'a str),
+}
+
 /// A file that is read, and the format of its cookies. The name `-` is standard input.
 #[derive(Clone, Copy, Debug, PartialEq, Eq)]
 pub struct InputFile<'a> {
@@ -79,25 +88,25 @@ pub enum Command<'a> {
     Set {
         url: Url,
         value: &'a str,
-        file: CookieFile<'a>,
+        file: OutputFile<'a>,
         suffixes: Option<SuffixFile<'a>>,
         /// Where the request came from, if the rules of browsers hold.
         context: Option<Context>,
     },
     /// Removes one cookie.
     Remove {
-        file: CookieFile<'a>,
+        file: OutputFile<'a>,
         key: Key<'a>,
     },
     /// Removes some cookies.
     Purge {
-        file: CookieFile<'a>,
+        file: OutputFile<'a>,
         purge: Purge<'a>,
     },
     /// Reads a file, and writes its cookies to another.
     Convert {
         input: InputFile<'a>,
-        output: CookieFile<'a>,
+        output: OutputFile<'a>,
         /// Whether cookies that the format of the output cannot represent are left out.
         skips_unrepresentable: bool,
     },

@@ -12,6 +12,6 @@ seen log db is_log history = (replay (cond is_log log db) history).seen
 
 pub returns-in-Ok-open_files-clause-found : goal.returns-in-Ok-open_files-clause-found
 returns-in-Ok-open_files-clause-found g c clean =
-    let (log, db) = c.in-Ok.ensures.fresh in
+    let (log, db) = c.in-Ok-open.ensures.fresh in
     let same = ap₂ image (ap₂ (seen g.S.Start.log g.S.Start.db) log.0 log.1) (ap₂ (seen g.S.Start.log g.S.Start.db) db.0 db.1) in
     subst (λ i. FindsCookies c.args.keep_session i c.in-Ok-open_files.opened.store) same (c.in-Ok-open_files.ensures.found clean)

@@ -1,19 +1,22 @@
--- The removal of expired cookies leaves the other cookies as they were.
-use Rattle.std.proofs.Common.{◌≡◌, Bool, true, false, cond, not, ◌||◌, List, [], ◌∷◌, Some, None, ⊎_elim, refl, sym, ap, ◌∙◌, true≢false, map, filter}
+-- The removal of expired cookies, or of those that fail a test, leaves the other cookies as they were.
+use Rattle.std.proofs.Common.{◌≡◌, Bool, true, false, cond, not, ◌||◌, List, [], ◌∷◌, Option, Some, None, ⊎_elim, refl, sym, ap, subst, ◌∙◌, true≢false, map, filter}
 use Rattle.std.specs.Prelude.{is_some}
 use Rattle.std.specs.List.{AllByRecursion, list_any}
-use Rattle.std.proofs.lemmas.Bool.{and_parts, cases_Bool, cond-true, cond-false, not-true}
+use Rattle.std.proofs.lemmas.Bool.{and_parts, cases_Bool, cond-true, cond-false, not-true, or_parts}
 use Rattle.std.proofs.lemmas.List.Sorted.{IsPermutation-sym}
 use Rattle.sqlite_trees.proofs.ListLemmas.{all_weaker}
 use Rattle.cookie_words.specs.Moments.{Moment}
 use Rattle.cookie_parts.specs.Cookie.{Row}
-use Rattle.cookie_laws.specs.Contents.{Contents, HasCreationOrder, has_expired, unexpired}
+use Rattle.cookie_parts.specs.Hosts.{passes}
+use Rattle.cookie_laws.specs.Contents.{Contents, HasCreationOrder, has_expired, is_retained, retained, unexpired}
 use Rattle.cookie_laws.specs.Rows.{Key, differ, has_key, is_unexpired, key_of, row_of, same_key, same_key-true, same_key_equiv}
+use Rattle.cookie_laws.proofs.CountedKeys.{CountAlike, alike-stays}
 use Rattle.cookie_laws.proofs.CreationKeys.{once_from_made}
-use Rattle.cookie_laws.proofs.DifferentKeys.{differ-permutation}
+use Rattle.cookie_laws.proofs.DifferentKeys.{differ-filter, differ-permutation}
 use Rattle.cookie_laws.proofs.Filtered.{list_any-kept, none-apart, none-filter}
 use Rattle.cookie_laws.proofs.LimitedRows.{row-created}
 use Rattle.cookie_laws.proofs.RowsByKey.{find-none}
+use Rattle.cookie_laws.proofs.SameCounts.{alike_from_permutation, permutation_from_alike}
 use Rattle.cookie_laws.proofs.UnexpiredRows.{created-unexpired}
 use Rattle.cookie_durable.specs.Sweeping.{Shrinks}
 
@@ -90,16 +93,66 @@ found-left p key (row ∷ rows) d is =
     (cases_Bool own))
     (cases_Bool (p row))
 
+-- the keys of the rows differ as those in creation order do
+rows_differ : (store : Contents) → HasCreationOrder store → differ same_key (map key_of store.rows) ≡ true
+rows_differ store has =
+    differ-permutation same_key same_key_equiv.symm store.created (map key_of store.rows) (IsPermutation-sym (map key_of store.rows) store.created has.0) has.1
+
 -- the removal of expired cookies leaves the others as they were
 pub unexpired-shrinks : (store : Contents) (now : Moment) → store.limit ≡ None → HasCreationOrder store → Shrinks store (unexpired now store)
 unexpired-shrinks store now none has =
     let new = unexpired now store in
     let order : HasCreationOrder new = created-unexpired store now has in
-    let rows_differ : differ same_key (map key_of store.rows) ≡ true =
-    differ-permutation same_key same_key_equiv.symm store.created (map key_of store.rows) (IsPermutation-sym (map key_of store.rows) store.created has.0) has.1 in
     record {
       order = order;
       unlimited = none;
-      kept = λ key is. found-left (is_unexpired now) key store.rows rows_differ is;
+      kept = λ key is. found-left (is_unexpired now) key store.rows (rows_differ store has) is;
       created = created_left store new (λ key. not (has_expired now store.rows key)) order refl;
+    }
+
+-- a row that is found by its key is found too behind a row of another key
+found-past : (row : Row) (rows all : List Row) → list_any (same_key (key_of row)) (map key_of rows) ≡ false
+    → AllByRecursion (λ (r : Row). row_of (key_of r) all ≡ Some r) rows → AllByRecursion (λ (r : Row). row_of (key_of r) (row ∷ all) ≡ Some r) rows
+found-past row [] all other found = tt
+found-past row (r ∷ rows) all other found =
+    let parts = or_parts (same_key (key_of row) (key_of r)) (list_any (same_key (key_of row)) (map key_of rows)) other in (
+      cond-false (has_key (key_of r) row) (Some row) (row_of (key_of r) all) (same_key_equiv.symm (key_of r) (key_of row) ∙ parts.0) ∙ found.0,
+      found-past row rows all parts.1 found.1,
+    )
+
+-- if keys differ, each row is found by its key
+found-own : (rows : List Row) → differ same_key (map key_of rows) ≡ true → AllByRecursion (λ (r : Row). row_of (key_of r) rows ≡ Some r) rows
+found-own [] d = tt
+found-own (row ∷ rows) d =
+    let parts = and_parts (not (list_any (same_key (key_of row)) (map key_of rows))) (differ same_key (map key_of rows)) d in (
+      cond-true (has_key (key_of row) row) (Some row) (row_of (key_of row) rows) (same_key_equiv.refl (key_of row)),
+      found-past row rows rows (not-true (list_any (same_key (key_of row)) (map key_of rows)) parts.0) (found-own rows parts.1),
+    )
+
+-- so a row passes if and only if that of its key does
+filter-own : (test : Row → Bool) (all rows : List Row) → AllByRecursion (λ (r : Row). row_of (key_of r) all ≡ Some r) rows
+    → filter test rows ≡ filter (λ (row : Row). is_retained test all (key_of row)) rows
+filter-own test all [] found = refl
+filter-own test all (row ∷ rows) found =
+    ap (λ (o : Option Row). cond (passes test o) (row ∷ filter test rows) (filter test rows)) (sym found.0)
+    ∙ ap (λ (rs : List Row). cond (is_retained test all (key_of row)) (row ∷ rs) rs) (filter-own test all rows found.1)
+
+-- the removal of the cookies that fail a test leaves the others as they were
+pub retained-shrinks : (store : Contents) (test : Row → Bool) → store.limit ≡ None → HasCreationOrder store → Shrinks store (retained test store)
+retained-shrinks store test none has =
+    let stays : Key → Bool = is_retained test store.rows in
+    let left : filter test store.rows ≡ filter (λ (row : Row). stays (key_of row)) store.rows =
+    filter-own test store.rows store.rows (found-own store.rows (rows_differ store has)) in
+    let alike : CountAlike (filter (λ (row : Row). stays (key_of row)) store.rows) (filter stays store.created) =
+    alike-stays store.rows store.created (alike_from_permutation store.rows store.created has.0) stays in
+    let order : HasCreationOrder (retained test store) = (
+      permutation_from_alike (filter test store.rows) (filter stays store.created)
+          (subst (λ (rows : List Row). CountAlike rows (filter stays store.created)) (sym left) alike),
+      differ-filter same_key stays store.created has.1,
+    ) in
+    record {
+      order = order;
+      unlimited = none;
+      kept = λ key is. found-left test key store.rows (rows_differ store has) is;
+      created = created_left store (retained test store) stays order refl;
     }
