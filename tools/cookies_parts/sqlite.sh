@@ -70,7 +70,7 @@ rows c.sqlite 'id, name' "1 'a'" "2 'b'" "3 'c'" "4 '__Host-d'"
 
 # Removals.
 prints '' remove c.sqlite .a.example / b
-cp c.sqlite old.sqlite
+cp c.sqlite old.sqlite || true
 fails 1 'c.sqlite: no such cookie' remove c.sqlite .a.example / b
 prints '' purge "$now" c.sqlite
 cmp -s c.sqlite old.sqlite && pass || fail 'c.sqlite: FAILED: it was changed where nothing was removed'
@@ -152,7 +152,7 @@ done
 # on_each FILE MESSAGE: every command fails on the file, and leaves it as it was.
 on_each() {
     local words
-    cp "$1" old.sqlite
+    cp "$1" old.sqlite || true
     for words in "show $1" "show --skip-malformed $1" "header $page $1" "explain $page $1" "set $now $page a=1 $1" "remove $1 a.example / a" \
         "purge $1" "purge --session $1" "convert $1 new.json" "convert pair.txt $1"; do
         # shellcheck disable=SC2086
@@ -224,17 +224,17 @@ fails 1 'few.txt: line 2 is not a cookie; --skip-malformed leaves it out' conver
 [ ! -e none.sqlite ] && pass || fail 'none.sqlite: FAILED: it was created'
 
 # Damaged files, and files that cannot be opened.
-head -c 5000 from.sqlite > cut.sqlite
+head -c 5000 from.sqlite > cut.sqlite || true
 on_each cut.sqlite "$damaged"
 python3 -c "
 data = bytearray(open('from.sqlite', 'rb').read())
 data[4096:4104] = bytes(8)
-open('zeros.sqlite', 'wb').write(data)"
+open('zeros.sqlite', 'wb').write(data)" && pass || fail 'zeros.sqlite: FAILED'
 on_each zeros.sqlite "$damaged"
-cp from.sqlite hot.sqlite
+cp from.sqlite hot.sqlite || true
 echo journal > hot.sqlite-journal
 on_each hot.sqlite 'SQLite left a rollback journal beside it, open it with sqlite3 first'
-cp from.sqlite first.sqlite && ln first.sqlite second.sqlite
+{ cp from.sqlite first.sqlite && ln first.sqlite second.sqlite; } || true
 on_each second.sqlite 'it or its log is not a regular file with one name'
 fails 1 'folder: it or its log is not a regular file with one name' show --format sqlite folder
 ln -s nothing.sqlite dangling.sqlite
@@ -256,7 +256,7 @@ for name in from plain; do
     holder=$!
     for _ in {1..100}; do [ -s locked.txt ] && break || sleep 0.1; done
     on_each "$name.sqlite" 'another program has it locked'
-    kill "$holder"
+    kill "$holder" || true
     wait "$holder" 2> "$temp/why" || true
     runs show "$now" "$name.sqlite"
     [ "$status" = 0 ] && pass || fail "$name.sqlite: FAILED: it stays locked" "$temp/stderr"

@@ -33,8 +33,8 @@ test('saved cookies are loaded', () => {
   assert.deepEqual(CookieStore.load(bytes, { which: 'all', ...AT }).cookies(), cookies);
 });
 
-test('session cookies are not saved, and are loaded, unless asked for', () => {
-  assert.deepEqual(CookieStore.load(store().save(AT), AT).cookies().map(({ name }) => name), ['kept', 'over']);
+test('session cookies are saved and loaded, unless asked for', () => {
+  assert.deepEqual(CookieStore.load(store().save(AT), AT).cookies().map(({ name }) => name), ['session', 'kept', 'over']);
   const all = store().save({ which: 'all', ...AT });
   assert.deepEqual(CookieStore.load(all, AT).cookies().map(({ name }) => name), ['session', 'kept', 'over']);
 });

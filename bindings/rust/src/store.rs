@@ -681,7 +681,11 @@ impl CookieStore {
 
     /// Returns an empty handle.
     fn empty() -> CookieStore {
-        CookieStore(UnsafeCell::new(sys::COOKIE_STORE_INIT))
+        CookieStore(UnsafeCell::new(sys::cookie_store {
+            live: false,
+            strict: false,
+            at: ptr::null_mut(),
+        }))
     }
 }
 

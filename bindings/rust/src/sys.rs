@@ -76,17 +76,10 @@ pub const COOKIE_STORE_PERSISTENT: cookie_store_which = 2;
 #[repr(C)]
 #[derive(Debug)]
 pub struct cookie_store {
-    pub(crate) live: bool,
-    pub(crate) strict: bool,
-    pub(crate) at: *mut c_void,
+    pub live: bool,
+    pub strict: bool,
+    pub at: *mut c_void,
 }
-
-/// An empty handle.
-pub const COOKIE_STORE_INIT: cookie_store = cookie_store {
-    live: false,
-    strict: false,
-    at: std::ptr::null_mut(),
-};
 
 #[repr(C)]
 #[derive(Clone, Copy, Debug, Default)]
