@@ -68,7 +68,6 @@ pub fn write_all<W: Sink>(sink: &mut W, bytes: &[u8]) -> Result<(), DeviceFailed
 /// Writes `text` and a line feed.
 ///
 /// After an error, a prefix of these bytes was written: possibly none or all of it.
-#[tactic(auto, using(crate::proofs::Appending::longer_beginning, crate::proofs::Appending::beginning_after))]
 pub fn write_line<W: Sink>(sink: &mut W, text: &[u8]) -> Result<(), DeviceFailed>
     requires { (W.state sink.old).failed < 2 ^ 64 - 1 }
     ensures whole { OnOk result (Appends (W.state sink.old).contents (W.state sink.new).contents (text.now ++ 10 ∷ [])) }

@@ -39,7 +39,6 @@ impl Output {
     /// If `text` does not fit, the buffer is written first; if `text` is longer than
     /// [`LIMIT`](Self::LIMIT), it is then written too. After an error the buffer is empty, and a
     /// prefix of its old bytes and `text` was written.
-    #[tactic(auto, using(crate::proofs::Appending::nothing_sent, crate::proofs::Appending::sent_beginning, crate::proofs::Appending::beginning_after, crate::proofs::Appending::longer_beginning))]
     pub fn put<W: Sink>(&mut self, sink: &mut W, text: &[u8]) -> Result<(), DeviceFailed>
         requires { (W.state sink.old).failed < 2 ^ 64 - 1 }
         ensures whole { OnOk result (Sends (W.state sink.old).contents (W.state sink.new).contents

@@ -40,8 +40,9 @@ pub fn moment_bytes(moment: DateTime) -> [u8; 20]
     ensures text { result ≡ moment_text (moment_of moment) }
     ensures utf8 { IsUtf8 result }
 {
-    let [y1, y2] = two_digits((moment.year() / 100) as u8);
-    let [y3, y4] = two_digits((moment.year() % 100) as u8);
+    let year = moment.year() as u16;
+    let [y1, y2] = two_digits((year / 100) as u8);
+    let [y3, y4] = two_digits((year % 100) as u8);
     let [m1, m2] = two_digits(moment.month() as u8);
     let [d1, d2] = two_digits(moment.day() as u8);
     let [h1, h2] = two_digits(moment.hour() as u8);

@@ -75,3 +75,9 @@ module _ (f : List ℕ → List RowPosition) (h : List ℕ) (at : ℕ) (below : 
       let w = dots_suffix h at in
       let split : candidate_domains h ≡ (h ∷ w.0) ++ drop (at + 1) h ∷ after_dots (drop (at + 1) h) = ap (λ ts. h ∷ ts) (w.1 ∙ ap (λ ts. w.0 ++ ts) (at_dot h at below dot)) in
       some_given f (h ∷ w.0) (drop (at + 1) h) (after_dots (drop (at + 1) h)) some (ap (flat_map f) (sym split) ∙ none)
+
+-- no candidates are left
+pub none_left : (f : List ℕ → List RowPosition) (left : List (List ℕ)) → left ≡ [] → (all positions : List RowPosition)
+    → SamePositions (positions ++ flat_map f left) all → SamePositions positions all
+none_left f left none all positions so_far = λ s.
+    ap (sum_by s) (sym (append-nil positions) ∙ ap (λ ts. positions ++ flat_map f ts) (sym none)) ∙ so_far s

@@ -2,6 +2,7 @@
 ghost use Rattle.std.specs.Prelude.{◌≡◌, ◌&&◌, false, is_none, true, Err, IfOk, MatchResult, Some};
 ghost use Rattle.std.specs.Option.{option_or};
 ghost use Rattle.cookie_words.specs.Moments.{moment_of};
+ghost use Rattle.cookie_raw.specs.Raw.{pair};
 ghost use Rattle.cookie_raw.specs.SetCookie.{reading};
 ghost use Rattle.cookie_parts.specs.Cookie.{cookie_from_header, cookie_matches, cookie_of, domain_for, early, early_error, expired_row, is_expired, is_http_only, is_out_of_reach, is_persistent, is_secure_only, to_raw, domain_attribute, expires_attribute, path_attribute, Row};
 ghost use Rattle.cookie_parts.specs.Domain.{domain_from_attribute};
@@ -342,16 +343,18 @@ impl<'a> PartialEq for Cookie<'a> {
 fn to_raw(alloc: Global, cookie: Cookie<'_>) -> Result<RawCookie<'static>, AllocError>
     ensures { IfOk result (λ raw. raw ≡ to_raw cookie.entry) }
 {
-    let Cookie {
-        raw,
-        path,
-        domain,
-        expires,
-    } = cookie;
+    let builder = builder_of(alloc, &cookie.raw)?;
+    let builder = with_expiration(builder, cookie.expires);
+    Ok(with_domain(with_path(builder, cookie.path), cookie.domain).build())
+}
+
+// A builder with the name and value of the raw cookie.
+fn builder_of(alloc: Global, raw: &RawCookie<'_>) -> Result<RawCookieBuilder, AllocError>
+    ensures { IfOk result (λ builder. builder ≡ pair raw.now.name raw.now.value) }
+{
     let name = String::from_str(alloc, raw.name())?;
     let value = String::from_str(alloc, raw.value())?;
-    let builder = with_expiration(RawCookieBuilder::new(name, value), expires);
-    Ok(with_domain(with_path(builder, path), domain).build())
+    Ok(RawCookieBuilder::new(name, value))
 }
 
 // Adds Expires for a persistent cookie.

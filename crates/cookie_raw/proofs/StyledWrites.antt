@@ -36,16 +36,16 @@ module _ {W : Type 0} (took : W → List ℕ → W → Type 0) where
   pub styled_three : (f g h i : Formatter W) (a b c all : List ℕ) → HasWrittenStyled took f a g → HasWrittenStyled took g b h → HasWrittenStyled took h c i → a ++ (b ++ c) ≡ all → HasWrittenStyled took f all i
   styled_three f g h i a b c all p1 p2 p3 is = of_eq _ _ all _ is (both_written _ _ _ _ _ p1 (both_written _ _ _ _ _ p2 p3))
 
-  pub styled_five : (f g h i j k : Formatter W) (a b c d e all : List ℕ) → HasWrittenStyled took f a g → HasWrittenStyled took g b h → HasWrittenStyled took h c i → HasWrittenStyled took i d j → HasWrittenStyled took j e k → a ++ (b ++ (c ++ (d ++ e))) ≡ all → HasWrittenStyled took f all k
-  styled_five f g h i j k a b c d e all p1 p2 p3 p4 p5 is = of_eq _ _ all _ is (both_written _ _ _ _ _ p1 (both_written _ _ _ _ _ p2 (both_written _ _ _ _ _ p3 (both_written _ _ _ _ _ p4 p5))))
+  pub styled_five : (f g h i j k : Formatter W) (a b c d e all : List ℕ) → HasWrittenStyled took f a g → HasWrittenStyled took g b h → HasWrittenStyled took h c i → HasWrittenStyled took i d j → HasWrittenStyled took j e k → a ++ b ++ c ++ d ++ e ≡ all → HasWrittenStyled took f all k
+  styled_five f g h i j k a b c d e all p1 p2 p3 p4 p5 is =
+      of_eq _ _ all _ is (both_written _ _ _ _ _ (both_written _ _ _ _ _ (both_written _ _ _ _ _ (both_written _ _ _ _ _ p1 p2) p3) p4) p5)
 
-  pub styled_six : (f g h i j k l : Formatter W) (a b c d e x all : List ℕ) → HasWrittenStyled took f a g → HasWrittenStyled took g b h → HasWrittenStyled took h c i → HasWrittenStyled took i d j → HasWrittenStyled took j e k → HasWrittenStyled took k x l → a ++ (b ++ (c ++ (d ++ (e ++ x)))) ≡ all → HasWrittenStyled took f all l
-  styled_six f g h i j k l a b c d e x all p1 p2 p3 p4 p5 p6 is = of_eq _ _ all _ is (both_written _ _ _ _ _ p1 (both_written _ _ _ _ _ p2 (both_written _ _ _ _ _ p3 (both_written _ _ _ _ _ p4 (both_written _ _ _ _ _ p5 p6)))))
+  pub styled_six : (f g h i j k l : Formatter W) (a b c d e x all : List ℕ) → HasWrittenStyled took f a g → HasWrittenStyled took g b h → HasWrittenStyled took h c i → HasWrittenStyled took i d j → HasWrittenStyled took j e k → HasWrittenStyled took k x l → a ++ b ++ c ++ d ++ e ++ x ≡ all → HasWrittenStyled took f all l
+  styled_six f g h i j k l a b c d e x all p1 p2 p3 p4 p5 p6 is =
+      styled_two _ _ _ _ _ all (styled_five _ _ _ _ _ _ _ _ _ _ _ _ p1 p2 p3 p4 p5 refl) p6 is
 
 -- what is written under any options is written without options
 pub plain_from_styled : {W : Type 0} (took : W → List ℕ → W → Type 0) (f : Formatter W) (r : Result (Unit {0}) Error) (bs : List ℕ) (g : Formatter W) → WritesStyledOnOk took f r bs g → WritesOnOk took f r bs g
 plain_from_styled took f r bs g styled plain ok =
     let written : HasWrittenStyled took f bs g = styled plain.flush ok in
     record { wrote = written.wrote; plain = record { bare = subst IsDefaultSpec (sym written.spec) plain.bare; flush = written.flush } }
-
-pub ruleset styled_writes = (styled_two, styled_three, styled_five, styled_six)

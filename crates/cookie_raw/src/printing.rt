@@ -86,7 +86,6 @@ fn write_year<W: fmt::Write>(f: &mut fmt::Formatter<W>, year: i16) -> fmt::Resul
 }
 
 // Writes the day of the week and of the month, as `Tue, 03`.
-#[tactic(auto, using(crate::proofs::StyledWrites::styled_three))]
 fn write_day<W: fmt::Write>(f: &mut fmt::Formatter<W>, date: DateTime) -> fmt::Result
     ensures writes { WritesOnOk W.write_str_gives f.old result
         (get_or day_names (weekday_of date.date) [] ++ codes ", " ++ two_digits date.date.day) f.new }
@@ -151,7 +150,6 @@ fn write_flag<W: fmt::Write>(f: &mut fmt::Formatter<W>, label: &str, is_set: boo
 }
 
 // Writes an attribute and its value, if there is one.
-#[tactic(auto, using(crate::proofs::StyledWrites::styled_two))]
 fn write_part<W: fmt::Write>(
     f: &mut fmt::Formatter<W>,
     label: &str,
@@ -170,7 +168,6 @@ fn write_part<W: fmt::Write>(
     }
 }
 
-#[tactic(auto, using(crate::proofs::StyledWrites::styled_two))]
 fn write_site<W: fmt::Write>(f: &mut fmt::Formatter<W>, site: Option<SameSite>) -> fmt::Result
     ensures writes { WritesOnOk W.write_str_gives f.old result
         (optional (codes "; SameSite=") (option_map site_text site)) f.new }
@@ -187,7 +184,6 @@ fn write_site<W: fmt::Write>(f: &mut fmt::Formatter<W>, site: Option<SameSite>) 
     }
 }
 
-#[tactic(auto, using(crate::proofs::StyledWrites::styled_two))]
 fn write_age<W: fmt::Write>(f: &mut fmt::Formatter<W>, age: Option<SignedDuration>) -> fmt::Result
     ensures writes { WritesOnOk W.write_str_gives f.old result
         (optional (codes "; Max-Age=") (option_map age_text (option_map signed_nanos age))) f.new }
@@ -205,7 +201,6 @@ fn write_age<W: fmt::Write>(f: &mut fmt::Formatter<W>, age: Option<SignedDuratio
 }
 
 // Writes Expires, unless its year is before 0, which four digits cannot write.
-#[tactic(auto, using(crate::proofs::StyledWrites::styled_two))]
 fn write_moment<W: fmt::Write>(f: &mut fmt::Formatter<W>, date: DateTime) -> fmt::Result
     ensures writes { WritesOnOk W.write_str_gives f.old result
         (optional (codes "; Expires=") (expires_text (At (moment_of date)))) f.new }

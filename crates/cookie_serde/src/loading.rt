@@ -1,5 +1,5 @@
 //! Loading rows from lines.
-ghost use Rattle.std.specs.Prelude.{◌≡◌, ◌-◌, ◌^◌, ◌<◌, IfErr, IfOk, OnErr, OnOk};
+ghost use Rattle.std.specs.Prelude.{◌≡◌, ◌-◌, ◌^◌, ◌<◌, [], IfErr, IfOk, OnErr, OnOk};
 ghost use Rattle.std.specs.Fn.{FnReturnsAt};
 ghost use Rattle.std.specs.Io.KnownBytes.{IsAtEnd};
 ghost use Rattle.cookie_serde.specs.LoadError.{StopsLoading};
@@ -82,12 +82,42 @@ pub(crate) fn numbered_rows<R: Source, F: Fn(&str) -> Result<Cookie<'_>, Error>>
 {
     let mut input = LineBuffer::new(alloc.alloc);
     let mut rows = Rows::new(alloc);
+    insert_lines(
+        &mut rows,
+        &mut input,
+        source,
+        alloc.alloc,
+        &cookie_of,
+        which,
+    )?;
+    Ok(rows)
+}
+
+// Inserts those of the cookies that are loaded, which `cookie_of` returns for the source's lines, into
+// empty rows.
+fn insert_lines<R: Source, F: Fn(&str) -> Result<Cookie<'_>, Error>>(
+    rows: &mut Rows,
+    input: &mut LineBuffer,
+    source: &mut R,
+    alloc: Global,
+    cookie_of: &F,
+    which: Which,
+) -> Result<(), LoadError>
+    requires callable { F.IsAlwaysCallable cookie_of.now }
+    requires readable { (R.state source.old).failed < 2 ^ 64 - 1 }
+    requires empty { (rows.old ≡ record { rows = []; created = [] }) × (input.old ≡ []) }
+    ensures built { OnOk result (BuildsFrom (FnReturnsAt F.Fn cookie_of.now) (R.state source.old).remaining which rows.new) }
+    ensures read { OnOk result (IsAtEnd (R.state source.new).remaining × ((R.state source.new).failed ≡ (R.state source.old).failed)) }
+    ensures failed { IfErr result (λ fault. StopsLoading (FnReturnsAt F.Fn cookie_of.now) fault
+        (R.state source.old) (R.state source.new)) }
+    ensures reads { ReadsEachOnce (R.state source.old) (R.state source.new) }
+{
     let mut number: u64 = 1;
     // for the checker: the proofs name the loop by its label
     'lines: loop {
         if let Some(end) = input.line_end() {
             let line = input.line(end);
-            insert_numbered(&mut rows, alloc.alloc, line, number, &cookie_of, which)?;
+            insert_numbered(rows, alloc, line, number, cookie_of, which)?;
             input.pass(end + 1);
             number = number.saturating_add(1);
         } else if !input.fill(source)? {
@@ -96,9 +126,9 @@ pub(crate) fn numbered_rows<R: Source, F: Fn(&str) -> Result<Cookie<'_>, Error>>
     }
     let line = input.rest();
     if !line.is_empty() {
-        insert_numbered(&mut rows, alloc.alloc, line, number, &cookie_of, which)?;
+        insert_numbered(rows, alloc, line, number, cookie_of, which)?;
     }
-    Ok(rows)
+    Ok(())
 }
 
 // Does [`insert_line`], and adds the number of the line to its error.

@@ -6,10 +6,14 @@ use Rattle.std.proofs.lemmas.Bool.{cases_eq, cases_lt}
 use Rattle.std.proofs.lemmas.List.{append-nil, length-map, length-set, length-take, length_push, map_push}
 use Rattle.std.proofs.lemmas.List.Concat.{flat_map-append}
 use Rattle.std.proofs.lemmas.Option.{get_or_from_slice_get, slice_get_within}
-use Rattle.ordered_map.specs.Layout.{at_position, at_positions, gap_position, IsOrdered}
+use Rattle.ordered_map.specs.Layout.{at_position, at_positions, gap_position, room_of, IsOrdered}
 use Rattle.ordered_map.proofs.Around.{after, before, place_of_position, position_at_place}
 use Rattle.ordered_map.proofs.OrderedPlaces.{last_apart, not_last, now_gap, now_moved, now_same, other_position, pushed, removed, without}
 use Rattle.ordered_map.proofs.FlatMaps.{at_position_here, at_position_past, at_within, flat_map_same, get_or_map_at, same_after, same_before, slice_get_append, slice_get_push, slice_get_set_other, slice_get_set_same, slice_get_take}
+
+-- a removal takes no room
+pub room_kept : (spare places entries spare' places' entries' : ℕ) → spare ≤ spare' → places ≤ places' → entries' ≤ entries → room_of spare places entries ≤ room_of spare' places' entries'
+room_kept spare places entries spare' places' entries' a b c = omega arith
 
 -- the last element takes the position of the one that is removed
 module _ {X : Type 0} (xs : List X) (at n : ℕ) (last d : X) (long : length xs ≡ suc n) (within : at < suc n) (is : slice_get xs n ≡ Some last) where

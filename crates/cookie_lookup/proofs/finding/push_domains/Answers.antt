@@ -1,7 +1,8 @@
-use Rattle.std.proofs.Common.{◌≡◌, ◌+◌, ◌*◌, ◌<◌, ◌≤◌, ◌++◌, List, ℕ, false, length, drop, get_or, eqb, lit<, arith, ap, ◌∙◌, sym, subst, ◌∷◌, []}
+use Rattle.std.proofs.Common.{◌≡◌, ◌+◌, ◌*◌, ◌<◌, ◌≤◌, ◌++◌, List, ℕ, false, length, drop, get_or, eqb, lit<, arith, ap, ◌∙◌, sym, subst, ◌∷◌, [], inl, refl}
 use Rattle.std.specs.Prelude.{◌≢◌}
 use Rattle.std.specs.List.{flat_map}
 use Rattle.std.proofs.lemmas.Bool.Decides.{nat_tests}
+use Rattle.std.proofs.lemmas.List.{at_drop_all}
 use Rattle.cookie_words.specs.Moments.{moment_of}
 use Rattle.cookie_laws.specs.Given.{is_given}
 use Rattle.cookie_laws.specs.Related.{after_dots}
@@ -17,9 +18,29 @@ use Rattle.cookie_lookup.proofs.CandidateDomains.{length_dots}
 use Rattle.cookie_lookup.proofs.Listed.{same_more}
 use Rattle.cookie_lookup.proofs.Results.{either_way}
 use Rattle.cookie_lookup.proofs.LookupResults.{some_given}
-use Rattle.cookie_lookup.proofs.LoopSteps.{dot_pushed, dot_kept, dot_gives}
-use Rattle.cookie_lookup.proofs.finding.push_domains.Goals.{then-bytes-at-eq46+in_ok-push_domain-2, else-bytes-at-eq46}
+use Rattle.cookie_lookup.proofs.LoopSteps.{dot_pushed, dot_kept, dot_gives, none_left}
+use Rattle.cookie_lookup.proofs.finding.push_domains.Given.{Over}
+use Rattle.cookie_lookup.proofs.finding.push_domains.Goals.{After-loop-at, then-bytes-at-eq46+in_ok-push_domain-2, else-bytes-at-eq46}
 use Rattle.cookie_lookup.proofs.finding.push_domains.Goals as goal
+
+pub push_domain-requires-clause-related : goal.push_domain-requires-clause-related
+push_domain-requires-clause-related g c = inl refl
+
+pub push_domain-requires-clause-domains : goal.push_domain-requires-clause-domains
+push_domain-requires-clause-domains g c = omega (arith, c.requires.domains)
+
+pub push_domain-requires-clause-paths : goal.push_domain-requires-clause-paths
+push_domain-requires-clause-paths g c = omega (arith, room_here (most_paths c.args.url.now) (dots c.args.host.now), c.requires.paths)
+
+pub returns-in_err-push_domain-clause-domains : goal.returns-in_err-push_domain-clause-domains
+returns-in_err-push_domain-clause-domains g c = omega (arith, c.push_domain.ensures.domains)
+
+pub returns-in_err-push_domain-clause-paths : goal.returns-in_err-push_domain-clause-paths
+returns-in_err-push_domain-clause-paths g c =
+    let first = g.S.Search.view_of c.args.search.now in
+    let host = c.args.host.now in
+    let most = paths_next first.groups host (after_dots host) (most_paths c.args.url.now) first.paths (g.S.Search.view_of c.push_domain.new.search).paths c.push_domain.ensures.paths in
+    omega (arith, most)
 
 pub returns-in_err-push_domain-clause-memory : goal.returns-in_err-push_domain-clause-memory
 returns-in_err-push_domain-clause-memory g c =
@@ -56,6 +77,16 @@ push_domain-requires-then-bytes-at-eq46-clause-related g c =
     let text : c.range_from.result.now ≡ drop (c.loop-at.at + 1) host = rw c.range_from.ensures.value (grind arith) in
     subst (IsCandidateDomain host) (sym text) (behind_dot host c.loop-at.at below dot)
 
+pub push_domain-requires-then-bytes-at-eq46-clause-name : goal.push_domain-requires-then-bytes-at-eq46-clause-name
+push_domain-requires-then-bytes-at-eq46-clause-name g c = c.is_host_name-host_is_name.ensures
+
+pub push_domain-requires-then-bytes-at-eq46-clause-domains : goal.push_domain-requires-then-bytes-at-eq46-clause-domains
+push_domain-requires-then-bytes-at-eq46-clause-domains g c =
+    let host = c.args.host.now in
+    let below : c.loop-at.at < length host = omega arith in
+    let dot : get_or host c.loop-at.at 0 ≡ 46 = rw (← c.as_bytes-bytes.ensures.value) c.if-bytes-at-eq46.true in
+    omega (arith, c.loop-at.invariant.domains, ap length (at_dot host c.loop-at.at below dot), c.requires.domains)
+
 pub push_domain-requires-then-bytes-at-eq46-clause-paths : goal.push_domain-requires-then-bytes-at-eq46-clause-paths
 push_domain-requires-then-bytes-at-eq46-clause-paths g c =
     let host = c.args.host.now in
@@ -65,6 +96,16 @@ push_domain-requires-then-bytes-at-eq46-clause-paths g c =
     let left = after_dots (drop (c.loop-at.at + 1) host) in
     let split : length (after_dots (drop c.loop-at.at host)) * m ≡ (1 + length left) * m = ap (λ n. n * m) (ap length (at_dot host c.loop-at.at below dot) ∙ omega arith) in
     omega (arith, c.loop-at.invariant.room, split, room_here m (length left), c.requires.paths)
+
+pub returns-in_err-push_domain-2-clause-groups : goal.returns-in_err-push_domain-2-clause-groups
+returns-in_err-push_domain-2-clause-groups g c = c.push_domain-then-bytes-at-eq46.ensures.groups ∙ c.loop-at.invariant.groups
+
+pub returns-in_err-push_domain-2-clause-domains : goal.returns-in_err-push_domain-2-clause-domains
+returns-in_err-push_domain-2-clause-domains g c =
+    let host = c.args.host.now in
+    let below : c.loop-at.at < length host = omega arith in
+    let dot : get_or host c.loop-at.at 0 ≡ 46 = rw (← c.as_bytes-bytes.ensures.value) c.if-bytes-at-eq46.true in
+    omega (arith, c.push_domain-then-bytes-at-eq46.ensures.domains, c.loop-at.invariant.domains, ap length (at_dot host c.loop-at.at below dot))
 
 pub returns-in_err-push_domain-2-clause-paths : goal.returns-in_err-push_domain-2-clause-paths
 returns-in_err-push_domain-2-clause-paths g c =
@@ -147,3 +188,33 @@ loop-at-preserved g c =
             every_path = rw left at c.loop-at.invariant.every_path;
           }
     ]
+
+-- no dots are left
+passed : (g : Over) (c : After-loop-at g) → after_dots (drop c.loop-at.at c.args.host.now) ≡ []
+passed g c = at_drop_all after_dots c.args.host.now c.loop-at.at (rw (← c.as_bytes-bytes.ensures.value) c.loop-at-test.false)
+
+pub returns-clause-positions : goal.returns-clause-positions
+returns-clause-positions g c =
+    let look : List ℕ → List (ℕ × ℕ × ℕ) = at_domain (is_given c.args.url.now (moment_of c.args.now)) (g.S.Search.view_of c.args.search.now).groups (candidate_paths c.args.url.now.path) in
+    none_left look (after_dots (drop c.loop-at.at c.args.host.now))
+    (passed g c)
+    (c.args.positions.now.items ++ flat_map look (candidate_domains c.args.host.now)) c.loop-at.positions.items c.loop-at.invariant.positions
+
+pub returns-clause-groups : goal.returns-clause-groups
+returns-clause-groups g c = c.loop-at.invariant.groups
+
+pub returns-clause-domains : goal.returns-clause-domains
+returns-clause-domains g c =
+    omega (arith, rw (passed g c) at c.loop-at.invariant.domains)
+
+pub returns-clause-paths : goal.returns-clause-paths
+returns-clause-paths g c =
+    omega (arith, rw (passed g c) at c.loop-at.invariant.paths)
+
+pub returns-clause-every_domain : goal.returns-clause-every_domain
+returns-clause-every_domain g c =
+    omega (arith, rw (passed g c) at c.loop-at.invariant.domains)
+
+pub returns-clause-every_path : goal.returns-clause-every_path
+returns-clause-every_path g c =
+    omega (arith, rw (passed g c) at c.loop-at.invariant.every_path)

@@ -1,6 +1,7 @@
-use Rattle.std.proofs.Common.{◌≡◌, ◌∙◌, ◌+◌, ◌<◌, ◌++◌, [], true, false, sym, ap, subst, List, ℕ, length, drop, map, bytes_eq, arith, Some}
+use Rattle.std.proofs.Common.{◌≡◌, ◌∙◌, ◌+◌, ◌<◌, ◌++◌, [], true, false, sym, ap, subst, List, ℕ, length, drop, map, bytes_eq, arith, Some, append-nil}
 use Rattle.std.specs.Prelude.{◌≢◌, filter, slice_get}
 use Rattle.std.specs.List.{flat_map, list_any}
+use Rattle.std.proofs.lemmas.List.{at_drop_all}
 use Rattle.cookie_words.specs.Moments.{moment_of}
 use Rattle.cookie_lookup.specs.RowFilter.{is_given_under}
 use Rattle.cookie_lookup.specs.Groups.{DomainGroups}
@@ -10,6 +11,9 @@ use Rattle.cookie_lookup.proofs.Listed.{filter_at, filter_passed, length_texts, 
 use Rattle.cookie_lookup.proofs.Results.{either_way}
 use Rattle.cookie_lookup.proofs.listing.push_listed.Goals.{in-Some+in_ok-push_path, in_default}
 use Rattle.cookie_lookup.proofs.listing.push_listed.Goals as goal
+
+pub push_path-requires-clause-domain : goal.push_path-requires-clause-domain
+push_path-requires-clause-domain g c = omega (arith, ap length c.loop-place.invariant.groups, c.requires.domain)
 
 pub push_path-requires-clause-room : goal.push_path-requires-clause-room
 push_path-requires-clause-room g c =
@@ -21,6 +25,12 @@ push_path-requires-clause-room g c =
     let passes : test c.in-Some.prefix.now ≡ true = subst (λ r. list_any (bytes_eq c.in-Some.prefix.now) (candidate_paths r) ≡ true) c.path-path.ensures.value c.in-Some.ensures.is in
     let most = listed_most path texts (paths_differ first.groups (g.met.S.Search.are_groups c.args.search.now) c.args.domain) in
     omega (arith, c.loop-place.invariant.paths, ap length (filter_at test texts c.loop-place.place c.in-Some.prefix.now here passes), most, c.requires.room)
+
+pub returns-in_err-push_path-clause-groups : goal.returns-in_err-push_path-clause-groups
+returns-in_err-push_path-clause-groups g c = c.push_path.ensures.groups ∙ c.loop-place.invariant.groups
+
+pub returns-in_err-push_path-clause-domains : goal.returns-in_err-push_path-clause-domains
+returns-in_err-push_path-clause-domains g c = c.push_path.ensures.domains ∙ c.loop-place.invariant.domains
 
 pub returns-in_err-push_path-clause-paths : goal.returns-in_err-push_path-clause-paths
 returns-in_err-push_path-clause-paths g c =
@@ -79,6 +89,29 @@ loop-place-preserved g c =
             paths = omega (arith, ap length same, c.loop-place.invariant.paths);
           }
     ]
+
+pub returns-clause-positions : goal.returns-clause-positions
+returns-clause-positions g c =
+    let paths = under c.args.domain (g.S.Search.view_of c.args.search.now).groups in
+    let test : List ℕ → _ = λ text. list_any (bytes_eq text) (candidate_paths c.args.row_filter.now.url.now.path) in
+    let texts : List (List ℕ) = map (λ p. p.0) paths in
+    let passed : filter test (drop c.loop-place.place texts) ≡ [] = at_drop_all (filter test) texts c.loop-place.place (omega (arith, length_texts paths, c.requires.count, c.loop-place-test.false)) in
+    let look : List ℕ → List (ℕ × ℕ × ℕ) = at_path (is_given_under c.args.row_filter.now.host_only c.args.row_filter.now.suffix c.args.row_filter.now.url.now (moment_of c.args.row_filter.now.time)) c.args.domain paths in
+    sym (append-nil c.loop-place.positions.items) ∙ ap (λ ts. c.loop-place.positions.items ++ flat_map look ts) (sym passed) ∙ c.loop-place.invariant.positions
+
+pub returns-clause-groups : goal.returns-clause-groups
+returns-clause-groups g c = c.loop-place.invariant.groups
+
+pub returns-clause-domains : goal.returns-clause-domains
+returns-clause-domains g c = c.loop-place.invariant.domains
+
+pub returns-clause-every_path : goal.returns-clause-every_path
+returns-clause-every_path g c =
+    let paths = under c.args.domain (g.S.Search.view_of c.args.search.now).groups in
+    let test : List ℕ → _ = λ text. list_any (bytes_eq text) (candidate_paths c.args.row_filter.now.url.now.path) in
+    let texts : List (List ℕ) = map (λ p. p.0) paths in
+    let passed : filter test (drop c.loop-place.place texts) ≡ [] = at_drop_all (filter test) texts c.loop-place.place (omega (arith, length_texts paths, c.requires.count, c.loop-place-test.false)) in
+    omega (arith, ap length passed, c.loop-place.invariant.paths)
 
 pub returns-clause-paths : goal.returns-clause-paths
 returns-clause-paths g c =

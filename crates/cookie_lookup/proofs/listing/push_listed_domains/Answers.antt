@@ -2,6 +2,7 @@ use Rattle.std.proofs.Common.{◌≡◌, ◌∙◌, ◌+◌, ◌*◌, ◌<◌, �
 use Rattle.std.specs.Prelude.{◌≢◌, filter, slice_get}
 use Rattle.std.specs.List.{flat_map, list_any}
 use Rattle.std.proofs.Math.Nat.{mul-le-mul_right}
+use Rattle.std.proofs.lemmas.List.{at_drop_all}
 use Rattle.cookie_words.specs.Moments.{moment_of}
 use Rattle.cookie_laws.specs.Given.{is_given}
 use Rattle.cookie_lookup.specs.Groups.{DomainGroups}
@@ -12,8 +13,10 @@ use Rattle.cookie_lookup.proofs.CandidateCounts.{paths_next, room_here, room_nex
 use Rattle.cookie_lookup.proofs.FoundPairs.{found_counted, listed_pairs, pairs_next}
 use Rattle.cookie_lookup.proofs.CandidateDomains.{length_related, related_differ, related_texts_are}
 use Rattle.cookie_lookup.proofs.Listed.{filter_at, filter_passed, length_texts, listed_domain_positions, listed_found, same_added, same_pushed, shared_most, some_same, text_gives}
+use Rattle.cookie_lookup.proofs.LoopSteps.{none_left}
 use Rattle.cookie_lookup.proofs.Results.{either_way}
-use Rattle.cookie_lookup.proofs.listing.push_listed_domains.Goals.{in-Some+in_ok-push_domain, in_default}
+use Rattle.cookie_lookup.proofs.listing.push_listed_domains.Given.{Over}
+use Rattle.cookie_lookup.proofs.listing.push_listed_domains.Goals.{After-loop-place, in-Some+in_ok-push_domain, in_default}
 use Rattle.cookie_lookup.proofs.listing.push_listed_domains.Goals as goal
 
 pub loop-place-init : goal.loop-place-init
@@ -36,6 +39,9 @@ loop-place-init g c =
       every_domain = omega (arith, listed_found first.groups (candidate_domains host) (related_differ host) differ, found_counted first.groups (filter test texts));
       every_path = omega (arith, listed_pairs (candidate_domains host) (related_differ host) first.groups (candidate_paths c.args.url.now.path) differ);
     }
+
+pub push_domain-requires-clause-name : goal.push_domain-requires-clause-name
+push_domain-requires-clause-name g c = c.is_host_name-host_is_name.ensures
 
 pub push_domain-requires-clause-related : goal.push_domain-requires-clause-related
 push_domain-requires-clause-related g c =
@@ -65,6 +71,9 @@ push_domain-requires-clause-paths g c =
     let more : List (List ℕ) = filter test (drop (c.loop-place.place + 1) texts) in
     let split : length (filter test (drop c.loop-place.place texts)) * m ≡ (1 + length more) * m = ap (λ n. n * m) (ap length left ∙ omega arith) in
     omega (arith, c.loop-place.invariant.room, split, room_here m (length more), c.requires.paths)
+
+pub returns-in_err-push_domain-clause-groups : goal.returns-in_err-push_domain-clause-groups
+returns-in_err-push_domain-clause-groups g c = c.push_domain.ensures.groups ∙ c.loop-place.invariant.groups
 
 pub returns-in_err-push_domain-clause-domains : goal.returns-in_err-push_domain-clause-domains
 returns-in_err-push_domain-clause-domains g c =
@@ -162,3 +171,35 @@ loop-place-preserved g c =
             every_path = omega (arith, ap (how_many_pairs_found first.groups ps) same, c.loop-place.invariant.every_path);
           }
     ]
+
+-- no domains are left
+passed : (g : Over) (c : After-loop-place g)
+    → filter (λ text. list_any (bytes_eq text) (candidate_domains c.args.host.now)) (drop c.loop-place.place (map (λ p. p.0) (g.S.Search.view_of c.args.search.now).groups)) ≡ []
+passed g c =
+    let groups = (g.S.Search.view_of c.args.search.now).groups in
+    at_drop_all (filter (λ text. list_any (bytes_eq text) (candidate_domains c.args.host.now))) (map (λ p. p.0) groups) c.loop-place.place
+    (omega (arith, length_texts groups, c.requires.count, c.loop-place-test.false))
+
+pub returns-clause-positions : goal.returns-clause-positions
+returns-clause-positions g c =
+    let first = g.S.Search.view_of c.args.search.now in
+    let host = c.args.host.now in
+    let look : List ℕ → List (ℕ × ℕ × ℕ) = at_domain (is_given c.args.url.now (moment_of c.args.now)) first.groups (candidate_paths c.args.url.now.path) in
+    none_left look _ (passed g c) (c.args.positions.now.items ++ flat_map look (candidate_domains host)) c.loop-place.positions.items c.loop-place.invariant.positions
+
+pub returns-clause-groups : goal.returns-clause-groups
+returns-clause-groups g c = c.loop-place.invariant.groups
+
+pub returns-clause-domains : goal.returns-clause-domains
+returns-clause-domains g c = omega (arith, c.loop-place.invariant.domains)
+
+pub returns-clause-paths : goal.returns-clause-paths
+returns-clause-paths g c = omega (arith, c.loop-place.invariant.paths)
+
+pub returns-clause-every_domain : goal.returns-clause-every_domain
+returns-clause-every_domain g c = omega (arith, ap length (passed g c), c.loop-place.invariant.every_domain)
+
+pub returns-clause-every_path : goal.returns-clause-every_path
+returns-clause-every_path g c =
+    let first = g.S.Search.view_of c.args.search.now in
+    omega (arith, ap (how_many_pairs_found first.groups (candidate_paths c.args.url.now.path)) (passed g c), c.loop-place.invariant.every_path)

@@ -16,13 +16,9 @@ returns c =
       c.with_domain.ensures,
       c.with_path.ensures,
       c.with_expiration-builder.ensures,
-      c.new.ensures,
+      c.in_ok-builder.ensures,
       or_nothing (expires_attribute (expiry_value c.cookie.inside.expires)),
       or_nothing (path_attribute c.cookie.inside.path),
       or_nothing (domain_attribute (domain_value c.cookie.inside.domain)),
-      c.in_ok-name.ensures.ok,
-      c.name.ensures,
-      c.in_ok-value.ensures.ok,
-      c.value.ensures,
     )
     (search rules)

@@ -6,7 +6,7 @@ use Rattle.cookie_serde.specs.Selections.{built_from}
 use Rattle.cookie_serde.specs.LoadError.{number_behind}
 use Rattle.cookie_serde.specs.Loading.{AreCookies}
 use Rattle.cookie_serde.proofs.LoadedLines.{Loaded}
-use Rattle.cookie_serde.proofs.loading.numbered_rows.Given as goal
+use Rattle.cookie_serde.proofs.loading.insert_lines.Given as goal
 
 abbrev pub invariant-lines : goal.invariant-lines
 invariant-lines g l = record {

@@ -6,8 +6,8 @@ use Rattle.cookie_serde.specs.Loading.{ParsesToCookie}
 use Rattle.cookie_serde.proofs.LoadErrors.{stops_at, stops_reading}
 use Rattle.cookie_serde.proofs.LoadedLines.{IsEnded, begun, built_none, ended, filled, finished, last_found, next_found, not_read, number_more, passed, taken_built, within}
 use Rattle.cookie_serde.proofs.Pairs.{AllZip-more, both}
-use Rattle.cookie_serde.proofs.loading.numbered_rows.Goals as goal
-use Rattle.cookie_serde.proofs.loading.numbered_rows.Goals.{then-not-is_empty+in_ok-insert_numbered-2, else-not-is_empty}
+use Rattle.cookie_serde.proofs.loading.insert_lines.Goals as goal
+use Rattle.cookie_serde.proofs.loading.insert_lines.Goals.{then-not-is_empty+in_ok-insert_numbered-2, else-not-is_empty}
 
 pub lines-init : goal.lines-init
 lines-init g c = record {
@@ -16,9 +16,9 @@ lines-init g c = record {
     [],
     [],
     tt,
-    c.new-rows.ensures ∙ built_none c.args.which,
+    c.requires.empty.0 ∙ built_none c.args.which,
     refl,
-    rw c.new-input.ensures (begun (g.R.Source.state c.args.source.now).remaining),
+    rw c.requires.empty.1 (begun (g.R.Source.state c.args.source.now).remaining),
   );
   turns = search rules;
 }
@@ -27,7 +27,7 @@ pub returns-in_err-insert_numbered-clause-failed : goal.returns-in_err-insert_nu
 returns-in_err-insert_numbered-clause-failed g c =
     let p = err_from_is_err_and c.from_residual.result c.from_residual.ensures.1 in
     let (done, cookies, are_made, are_built, number, known) = c.lines.invariant.loaded in
-    let Parses = FnReturnsAt g.F.Fn c.args.cookie_of in
+    let Parses = FnReturnsAt g.F.Fn c.args.cookie_of.now in
     let first = IfSome_then (g.R.Source.state c.args.source.now).remaining known
     (λ text l. next_found text _ _ _ done c.in-Some.end l c.in-Some.ensures.line c.line-line.ensures) in
     rw (p.1, p.2)
@@ -36,7 +36,7 @@ returns-in_err-insert_numbered-clause-failed g c =
 pub lines-preserved-in-Some : goal.lines-preserved-in-Some
 lines-preserved-in-Some g c =
     let (done, cookies, are_made, are_built, number, known) = c.lines.invariant.loaded in
-    let Parses = FnReturnsAt g.F.Fn c.args.cookie_of in
+    let Parses = FnReturnsAt g.F.Fn c.args.cookie_of.now in
     let line = c.line-line.result.now in
     let (cookie, parses_it, built_now) = taken_built Parses _ _ _ _ cookies c.in_ok-insert_numbered.ensures.taken are_built in
     record {
@@ -82,7 +82,7 @@ pub returns-in_err-fill-clause-failed : goal.returns-in_err-fill-clause-failed
 returns-in_err-fill-clause-failed g c =
     let p = err_from_is_err_and c.from_residual-in_err-fill.result c.from_residual-in_err-fill.ensures.1 in
     let (done, cookies, are_made, are_built, number, known) = c.lines.invariant.loaded in
-    let Parses = FnReturnsAt g.F.Fn c.args.cookie_of in
+    let Parses = FnReturnsAt g.F.Fn c.args.cookie_of.now in
     let filling = c.in_err-fill.ensures in
     let none = rw (sym filling.err) at (sym c.in_default.ensures.first) in
     let brought = IfSome_then (g.R.Source.state c.args.source.now).remaining c.lines.invariant.turns
@@ -95,7 +95,7 @@ pub returns-in_err-insert_numbered-2-clause-failed : goal.returns-in_err-insert_
 returns-in_err-insert_numbered-2-clause-failed g c =
     let p = err_from_is_err_and c.from_residual-in_err-insert_numbered-2.result c.from_residual-in_err-insert_numbered-2.ensures.1 in
     let (done, cookies, are_made, are_built, number, known) = c.lines.invariant.loaded in
-    let Parses = FnReturnsAt g.F.Fn c.args.cookie_of in
+    let Parses = FnReturnsAt g.F.Fn c.args.cookie_of.now in
     let filling = c.in_ok-fill.ensures in
     let (same, end) = filling.end c.if-not-branch.true in
     let one = rw (sym same) at (c.line_end.ensures.last c.in_default.is) in
@@ -111,7 +111,7 @@ returns-in_err-insert_numbered-2-clause-failed g c =
 pub returns-clause-built : goal.returns-clause-built
 returns-clause-built g c =
     let (done, cookies, are_made, are_built, number, known) = c.lines.invariant.loaded in
-    let Parses = FnReturnsAt g.F.Fn c.args.cookie_of in
+    let Parses = FnReturnsAt g.F.Fn c.args.cookie_of.now in
     let filling = c.in_ok-fill.ensures in
     let (same, end) = filling.end c.if-not-branch.true in
     let one = rw (sym same) at (c.line_end.ensures.last c.in_default.is) in

@@ -1,0 +1,14 @@
+use Rattle.std.proofs.Common.{arith, refl}
+use Rattle.std.proofs.lemmas.Grind.{common_steps}
+use Rattle.cookie_raw.proofs.StyledWrites.{plain_from_styled, styled_three}
+use Rattle.cookie_raw.proofs.printing.write_day.Goals as goal
+
+pub returns-clause-styled : goal.returns-clause-styled
+returns-clause-styled g c = λ flush ok.
+    let name = c.in_ok-write_str.ensures.styled flush refl in
+    let comma = c.in_ok-write_str-2.ensures.styled name.flush refl in
+    let number = c.write_two_digits.ensures.styled comma.flush ok in
+    styled_three _ _ _ _ _ _ _ _ _ name comma number (grind (arith, common_steps))
+
+pub returns-clause-writes : goal.returns-clause-writes
+returns-clause-writes g c = plain_from_styled _ _ _ _ _ (returns-clause-styled g c)
