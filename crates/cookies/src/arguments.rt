@@ -32,16 +32,24 @@ fn request<'a>(
     matches: &ArgMatches<'a>,
 ) -> Result<Request<'a>, Failure<'a>> {
     let now = time(matches)?;
-    let command = match verb {
-        "show" => show(matches)?,
-        "header" => header(alloc, matches)?,
-        "explain" => explain(alloc, matches)?,
-        "set" => set(alloc, matches)?,
-        "remove" => remove(matches)?,
-        "purge" => purge(matches)?,
-        _ => convert(matches)?,
-    };
+    let command = command(alloc, verb, matches)?;
     Ok(Request { command, now })
+}
+
+fn command<'a>(
+    alloc: Global,
+    verb: &str,
+    matches: &ArgMatches<'a>,
+) -> Result<Command<'a>, Failure<'a>> {
+    match verb {
+        "show" => show(matches),
+        "header" => header(alloc, matches),
+        "explain" => explain(alloc, matches),
+        "set" => set(alloc, matches),
+        "remove" => remove(matches),
+        "purge" => purge(matches),
+        _ => convert(matches),
+    }
 }
 
 // Returns the help or the version if the words ask for it, else the error.
@@ -70,7 +78,7 @@ fn one_line(alloc: Global, text: &str) -> Result<String, AllocError> {
     Ok(line)
 }
 
-fn show<'a>(matches: &ArgMatches<'a>) -> Result<Command<'a>, Usage<'a>> {
+fn show<'a>(matches: &ArgMatches<'a>) -> Result<Command<'a>, Failure<'a>> {
     Ok(Command::Show {
         file: input_file(matches, "FILE", "format", "--format")?,
         is_json: matches.get_flag("json"),
@@ -119,7 +127,7 @@ fn set<'a>(alloc: Global, matches: &ArgMatches<'a>) -> Result<Command<'a>, Failu
     })
 }
 
-fn remove<'a>(matches: &ArgMatches<'a>) -> Result<Command<'a>, Usage<'a>> {
+fn remove<'a>(matches: &ArgMatches<'a>) -> Result<Command<'a>, Failure<'a>> {
     Ok(Command::Remove {
         file: output_file(matches, word(matches, "FILE")?, "format", "--format")?,
         key: Key {
@@ -130,7 +138,7 @@ fn remove<'a>(matches: &ArgMatches<'a>) -> Result<Command<'a>, Usage<'a>> {
     })
 }
 
-fn purge<'a>(matches: &ArgMatches<'a>) -> Result<Command<'a>, Usage<'a>> {
+fn purge<'a>(matches: &ArgMatches<'a>) -> Result<Command<'a>, Failure<'a>> {
     Ok(Command::Purge {
         file: output_file(matches, word(matches, "FILE")?, "format", "--format")?,
         purge: Purge::of_options(
@@ -141,7 +149,7 @@ fn purge<'a>(matches: &ArgMatches<'a>) -> Result<Command<'a>, Usage<'a>> {
     })
 }
 
-fn convert<'a>(matches: &ArgMatches<'a>) -> Result<Command<'a>, Usage<'a>> {
+fn convert<'a>(matches: &ArgMatches<'a>) -> Result<Command<'a>, Failure<'a>> {
     Ok(Command::Convert {
         input: input_file(matches, "IN", "from", "--from")?,
         output: output_file(matches, word(matches, "OUT")?, "to", "--to")?,

@@ -66,11 +66,18 @@ impl<'r> Runner<'r> {
     fn show<'a>(&self, file: InputFile<'a>, is_json: bool) -> Result<(), Failure<'a>> {
         let store = self.load(file)?;
         if is_json {
-            let list = written_cookies(FileFormat::Saved(Format::Json), &store);
-            let list = list.map_err(|error| Failure::input(file.name, error))?;
-            return self.write("-", list.as_slice());
+            self.print_list(file.name, &store)
+        } else {
+            self.print_table(file.name, table(&store, self.now))
         }
-        self.print_table(file.name, table(&store, self.now))
+    }
+
+    // Prints the cookies of a file as a JSON list.
+    fn print_list<'a>(&self, name: &'a str, store: &CookieStore) -> Result<(), Failure<'a>> {
+        match written_cookies(FileFormat::Saved(Format::Json), store) {
+            Ok(list) => self.write("-", list.as_slice()),
+            Err(error) => Err(Failure::input(name, error)),
+        }
     }
 
     fn header<'a>(

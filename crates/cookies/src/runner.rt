@@ -1,7 +1,7 @@
 //! What commands share: the time, the allocator, and the files that they read and write.
 use crate::database;
 use crate::error::{Failure, FileError};
-use crate::export::read_exported;
+use crate::export::{Exported, read_exported};
 use crate::files::{self, input_name};
 use crate::format::{Export, InputFormat, OutputFormat};
 use crate::note::Note;
@@ -79,26 +79,37 @@ impl<'r> Runner<'r> {
         store.map_err(|error| Failure::input(file.name, error.with_skip_option()))
     }
 
-    // Reads the cookies of an export, and says how many are partitioned, which are left out.
+    // Reads the cookies of an export, without malformed items and partitioned cookies.
     fn exported<'a>(
         &self,
         file: InputFile<'a>,
         export: Export,
     ) -> Result<CookieStore, Failure<'a>> {
         let contents = self.read(file.name)?;
-        let exported = read_exported(self.alloc, export, contents.as_slice(), self.now);
-        let exported = exported.map_err(|error| Failure::input(file.name, error))?;
+        match read_exported(self.alloc, export, contents.as_slice(), self.now) {
+            Ok(exported) => {
+                self.say_left_out(file, &exported)?;
+                Ok(exported.store)
+            }
+            Err(error) => Err(Failure::input(file.name, error)),
+        }
+    }
+
+    // Names the malformed items, which are an error if they may not be left out, and says how many
+    // cookies are partitioned.
+    fn say_left_out<'a>(
+        &self,
+        file: InputFile<'a>,
+        exported: &Exported,
+    ) -> Result<(), Failure<'a>> {
+        let name = input_name(file.name);
         for item in exported.malformed.iter() {
             if !file.skips_malformed {
                 return Err(Failure::input(file.name, FileError::MalformedItem(*item)));
             }
-            self.say(input_name(file.name), Note::MalformedItem(*item))?;
+            self.say(name, Note::MalformedItem(*item))?;
         }
-        self.say(
-            input_name(file.name),
-            Note::Partitioned(exported.partitioned),
-        )?;
-        Ok(exported.store)
+        self.say(name, Note::Partitioned(exported.partitioned))
     }
 
     /// Reads the cookies of the well-formed lines of a file, and names the others.
