@@ -42,7 +42,8 @@ module _ (store : Contents) (rows : List TableRow) (done calls : List Call) wher
             (subst (λ (s : Contents). Holds s rows) (sym (store_after_more done call store)) holds);
       }
 
-replies-length : (calls : List Call) (store : Contents) → length (replies calls store) ≡ length calls
+-- there is a reply for each call
+pub replies-length : (calls : List Call) (store : Contents) → length (replies calls store) ≡ length calls
 replies-length [] store = refl
 replies-length (call ∷ calls) store = omega (arith, replies-length calls (step call store).store)
 

@@ -12,6 +12,7 @@ pub mod ReadRows
 pub mod RowEdits
 pub mod SavedFiles
 pub mod SessionRows
+pub mod StoppedCalls
 pub mod StrictCalls
 pub mod SweptFiles
 pub mod SweptRows

@@ -1,5 +1,5 @@
 -- What a call under the rules of browsers touches: as the plain call that it becomes, or nothing.
-use Rattle.std.proofs.Common.{◌≡◌, ℕ, ℤ, Bool, true, false, ◌||◌, IsTrue, List, [], ◌∷◌, ◌++◌, Option, Some, None, Result, Ok, Err, OnErr, OnOk, ◌⊎◌, inl, inr, ⊎_elim, refl, sym, ap, subst, ◌∙◌}
+use Rattle.std.proofs.Common.{◌≡◌, ℕ, ℤ, true, IsTrue, List, [], ◌∷◌, ◌++◌, Option, Some, None, Result, Ok, Err, OnErr, OnOk, ◌⊎◌, inl, inr, ⊎_elim, refl, sym, ap, subst, ◌∙◌}
 use Rattle.std.specs.Prelude.{filter, is_some, IfErr, IfSome, IsErrAnd}
 use Rattle.std.specs.Result.{result_map_both, result_ok}
 use Rattle.url.specs.Parts.{Parts}
@@ -25,8 +25,7 @@ use Rattle.cookie_strict.specs.StrictRuns.{allowed_insertion, if_accepted, plain
 use Rattle.cookie_strict.specs.declared.context.Context.{Context}
 use Rattle.cookie_strict.specs.declared.error.StrictError.{StrictError}
 use Rattle.cookie_strict.specs.declared.error.StrictError.TheVariants.{Cookie}
-use Rattle.cookie_table.specs.WholeSeconds.{is_early}
-use Rattle.cookie_durable.specs.Checks.{greatest_rowid, is_unstorable, is_unstorable_at}
+use Rattle.cookie_durable.specs.Checks.{greatest_rowid, is_unstorable_at}
 use Rattle.cookie_durable.specs.Durable.{IsSaved}
 use Rattle.cookie_durable.specs.Numbering.{Ids, Names, Touches, key_in}
 use Rattle.cookie_durable.specs.declared.durable_error.DurableError.{DurableError}
@@ -158,13 +157,9 @@ left_by_reply (Err error) allowed old new replied known stored unchanged =
 pub when_some : {A : Type 0} (found : Option A) (value : A) (P : A → Type 0) → found ≡ Some value → IfSome found P → P value
 when_some found value P is holds = subst (λ o. IfSome o P) is holds
 
-or_later : (a b : Bool) → IsTrue b → IsTrue (a || b)
-or_later true b holds = refl
-or_later false b holds = holds
-
 -- why the cookie of a header value cannot be written
 pub reason_in_header : (draft : Result Row CookieError) (cookie : Row) (now : Moment) (e : DurableError) (next : ℤ) → draft ≡ Ok cookie
-    → ((e ≡ Unstorable) × IsTrue (is_unstorable cookie)) ⊎ (((e ≡ Full) × (next ≡ greatest_rowid)) ⊎ (e ≡ OutOfMemory))
+    → ((e ≡ Unstorable) × IsTrue (is_unstorable_at now cookie)) ⊎ (((e ≡ Full) × (next ≡ greatest_rowid)) ⊎ (e ≡ OutOfMemory))
     → ((e ≡ Unstorable) × IsTrue (passes (is_unstorable_at now) (result_ok draft)))
     ⊎ (((e ≡ Full) × IsTrue (is_some (result_ok draft)) × (next ≡ greatest_rowid)) ⊎ (e ≡ OutOfMemory))
 reason_in_header draft cookie now e next is reason =
@@ -172,9 +167,9 @@ reason_in_header draft cookie now e next is reason =
     ⊎ (((e ≡ Full) × IsTrue (is_some (result_ok d)) × (next ≡ greatest_rowid)) ⊎ (e ≡ OutOfMemory)) in
     subst P (sym is) (of_cookie reason)
   where
-    of_cookie : ((e ≡ Unstorable) × IsTrue (is_unstorable cookie)) ⊎ (((e ≡ Full) × (next ≡ greatest_rowid)) ⊎ (e ≡ OutOfMemory))
-        → ((e ≡ Unstorable) × IsTrue (is_early now || is_unstorable cookie)) ⊎ (((e ≡ Full) × (true ≡ true) × (next ≡ greatest_rowid)) ⊎ (e ≡ OutOfMemory))
-    of_cookie (inl (same, holds)) = inl (same, or_later (is_early now) (is_unstorable cookie) holds)
+    of_cookie : ((e ≡ Unstorable) × IsTrue (is_unstorable_at now cookie)) ⊎ (((e ≡ Full) × (next ≡ greatest_rowid)) ⊎ (e ≡ OutOfMemory))
+        → ((e ≡ Unstorable) × IsTrue (is_unstorable_at now cookie)) ⊎ (((e ≡ Full) × (true ≡ true) × (next ≡ greatest_rowid)) ⊎ (e ≡ OutOfMemory))
+    of_cookie (inl unstorable) = inl unstorable
     of_cookie (inr (inl (same, last))) = inr (inl (same, refl, last))
     of_cookie (inr (inr same)) = inr (inr same)
 

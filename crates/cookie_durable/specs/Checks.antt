@@ -1,5 +1,5 @@
 -- Cookies that cannot be written, and why calls fail.
-use Rattle.std.specs.Prelude.{◌≡◌, ◌<◌, ℕ, ◌+◌, ℤ, pos, Bool, ◌||◌, IsTrue, List, length, nat_lt, is_some, Option, Some, None}
+use Rattle.std.specs.Prelude.{◌≡◌, ◌<◌, ℕ, ◌+◌, ℤ, pos, Bool, ◌||◌, IsTrue, List, length, nat_lt, is_some, Option, Some, None, slice_get}
 use Rattle.std.specs.List.{list_any}
 use Rattle.std.specs.Result.{result_ok}
 use Rattle.cookie_words.specs.Moments.{Moment}
@@ -56,6 +56,18 @@ IsReasonFor (NotWritten cause) d unstorable cookie = Unit {0}
 -- why a call may fail
 abbrev pub IsReasonOf : {S : Type 0} → DurableError → Durable S → Call → Type 0
 IsReasonOf error d call = IsReasonFor error d is_unstorable (cookie_of_call call)
+
+-- the test passes of the cookie that the call behind the first `done` is to insert
+abbrev pub IsNext : (Option Row → Bool) → ℕ → List Call → Type 0
+IsNext test done calls = (call : Call) × (slice_get calls done ≡ Some call) × IsTrue (test (cookie_of_call call))
+
+-- why calls stop behind the first `done`: as the next may fail alone, but not that no rowid is left then
+abbrev pub IsReasonAfter : {S : Type 0} → DurableError → Durable S → ℕ → List Call → Type 0
+IsReasonAfter Failed d done calls = IsTrue d.is_failed
+IsReasonAfter Unstorable d done calls = IsNext (passes is_unstorable) done calls
+IsReasonAfter Full d done calls = IsNext is_some done calls
+IsReasonAfter OutOfMemory d done calls = Unit {0}
+IsReasonAfter (NotWritten cause) d done calls = Unit {0}
 
 -- a cookie cannot be written that is received at this time under the rules of browsers, by which it expires at most 400 days
 -- later

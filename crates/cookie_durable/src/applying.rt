@@ -4,7 +4,7 @@ ghost use Rattle.sqlite_trees.specs.Tree.{Trees};
 ghost use Rattle.sqlite_trees.specs.View.{doubt, IsClean};
 ghost use Rattle.cookie_core.specs.CallViews.{call_view, reply_view};
 ghost use Rattle.cookie_laws.specs.Runs.{replies, step, store_after};
-ghost use Rattle.cookie_durable.specs.Checks.{IsReasonOf};
+ghost use Rattle.cookie_durable.specs.Checks.{IsReasonAfter, IsReasonOf};
 ghost use Rattle.cookie_durable.specs.Durable.{ChangesTo, HoldsAfterPrefix, IsAtomic, IsInStep};
 
 use crate::{DurableError, DurableStore};
@@ -79,6 +79,7 @@ impl<S: Store> DurableStore<S> {
         ensures crash { self.old.is_failed ≡ false → IsClean (S.Store.view self.new.file) → (db : Trees) → S.Store.recovers self.new.file db
             → HoldsAfterPrefix (length result.0.items) (map call_view calls.items) self.old.store (db self.old.table) }
 
+        ensures reason { IfErr result.1 (λ e. IsReasonAfter e self.old (length result.0.items) (map call_view calls.items)) }
         ensures table { self.new.table ≡ self.old.table }
         ensures clean { doubt (S.Store.view self.old.file).is_clean ≤ doubt (S.Store.view self.new.file).is_clean }
     {

@@ -1,9 +1,10 @@
 //! Checks of a cookie before anything changes.
 ghost use Rattle.std.specs.Prelude.{◌≡◌, ◌↔◌, ◌⊎◌, ◌<◌, ◌^◌, Err, IfErr, IfOk, IsTrue};
 ghost use Rattle.std.specs.Option.{option_copied};
+ghost use Rattle.cookie_words.specs.Moments.{moment_of};
 ghost use Rattle.cookie_laws.specs.Rows.{key_of};
 ghost use Rattle.cookie_table.specs.Columns.{table_row};
-ghost use Rattle.cookie_durable.specs.Checks.{greatest_rowid, is_unstorable, len_if_any, text_len};
+ghost use Rattle.cookie_durable.specs.Checks.{greatest_rowid, is_unstorable, is_unstorable_at, len_if_any, text_len};
 ghost use Rattle.cookie_durable.specs.Numbering.{key_in};
 
 use crate::numbering::{Names, names_of};
@@ -11,6 +12,7 @@ use crate::{DurableError, DurableStore};
 use cookie_forms::SavedError;
 use cookie_parts::Cookie;
 use cookie_table::to_row;
+use jiff::civil::DateTime;
 use sqlite_trees::store::Store;
 use sqlite_value::row::Row;
 use std::alloc::Global;
@@ -49,6 +51,30 @@ impl<S: Store> DurableStore<S> {
             cookie.name(),
         )?;
         Ok(names)
+    }
+
+    /// Checks whether a cookie that is received now under the rules of browsers can be written, and
+    /// returns its domain, path and name. The rules cut its expiry to 400 days from `now`.
+    ///
+    /// # Errors
+    ///
+    /// Those of [`names_to_write`](Self::names_to_write), and `Unstorable` also if `now` is before the
+    /// year 0.
+    pub(crate) fn names_to_write_at(
+        &self,
+        alloc: Global,
+        cookie: &Cookie<'static>,
+        now: DateTime,
+    ) -> Result<Names, DurableError>
+        ensures key { IfOk result (λ names. key_in names ≡ key_of cookie.now) }
+        ensures unstorable { IsTrue (is_unstorable_at (moment_of now) cookie.now) → result ≡ Err DurableError.Unstorable }
+        ensures errors { IfErr result (λ e. ((e ≡ DurableError.Unstorable) × IsTrue (is_unstorable_at (moment_of now) cookie.now))
+            ⊎ (((e ≡ DurableError.Full) × (self.now.next ≡ greatest_rowid)) ⊎ (e ≡ DurableError.OutOfMemory))) }
+    {
+        if now.year() < 0 {
+            return Err(DurableError::Unstorable);
+        }
+        self.names_to_write(alloc, cookie)
     }
 }
 

@@ -9,6 +9,7 @@ mod attaching;
 mod calls;
 mod changes;
 mod checking;
+mod closing;
 mod configuration;
 mod crashing;
 mod durable_error;

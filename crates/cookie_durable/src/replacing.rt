@@ -24,8 +24,8 @@ impl<S: Store> DurableStore<S> {
     /// nothing is pending. Their creation order is then that of
     /// [`iter_any`](CookieStore::iter_any).
     ///
-    /// After an error the cookies of the table are as they were, but a crash after `NotWritten` may
-    /// leave the others.
+    /// After an error the cookies of the table are as they were, if the file is still open; a crash
+    /// after `NotWritten` may leave the others.
     ///
     /// # Errors
     ///
@@ -44,7 +44,7 @@ impl<S: Store> DurableStore<S> {
             → (S.Store.view result.0).committed ≡ (S.Store.view self.file).committed) }
 
         // A crash leaves the table as it was, or with the other cookies.
-        ensures crash { self.is_failed ≡ false → IsClean (S.Store.view result.0) → (db : Trees) → S.Store.recovers result.0 db
+        ensures crash { IsClean (S.Store.view result.0) → (db : Trees) → S.Store.recovers result.0 db
             → S.Store.recovers self.file db ⊎ (db self.table ≡ new_rows cookies.now.rows) }
 
         ensures failed { IsTrue self.is_failed → result ≡ (self.file, Err DurableError.Failed) }

@@ -114,11 +114,7 @@ pub fn insert<S: Store>(
     if durable.is_failed {
         return Err(DurableError::Failed);
     }
-    // the rules cut the expiry to 400 days from `now`
-    if now.year() < 0 {
-        return Err(DurableError::Unstorable);
-    }
-    let names = durable.names_to_write(alloc, &cookie)?;
+    let names = durable.names_to_write_at(alloc, &cookie, now)?;
     match insert_strictly(&mut durable.store, cookie, url, now)? {
         Ok(action) => {
             durable.write(alloc, names)?;
@@ -145,11 +141,8 @@ fn names_in_header<S: Store>(
         ⊎ (((e ≡ DurableError.Full) × IsTrue (is_some (result_ok (draft_cookie text.now url.now (moment_of now)))) × (durable.now.next ≡ greatest_rowid))
         ⊎ (e ≡ DurableError.OutOfMemory))) }
 {
-    let Ok(cookie) = parse_draft(alloc, text, url, now)? else {
-        return Ok(None);
-    };
-    if now.year() < 0 {
-        return Err(DurableError::Unstorable);
+    match parse_draft(alloc, text, url, now)? {
+        Ok(cookie) => Ok(Some(durable.names_to_write_at(alloc, &cookie, now)?)),
+        Err(_) => Ok(None),
     }
-    Ok(Some(durable.names_to_write(alloc, &cookie)?))
 }

@@ -1,12 +1,13 @@
-use Rattle.std.proofs.Common.{◌≡◌, ◌∙◌, ◌+◌, ap, refl, sym, [], ◌∷◌, ◌++◌, ⊎_elim, inl, inr, map, append_assoc, arith}
+use Rattle.std.proofs.Common.{◌≡◌, ◌∙◌, ◌+◌, ap, refl, sym, [], ◌∷◌, ◌++◌, ⊎_elim, inl, inr, length, map, append_assoc, arith}
 use Rattle.std.proofs.Math.Nat.{le_trans}
-use Rattle.std.proofs.lemmas.List.{length-append, map-append}
+use Rattle.std.proofs.lemmas.List.{length-append, length-map, map-append}
 use Rattle.cookie_core.specs.CallViews.{call_view, reply_view}
 use Rattle.cookie_laws.specs.Contents.{Contents}
 use Rattle.cookie_laws.specs.Runs.{Reply, replies, step, store_after}
 use Rattle.cookie_core.proofs.LongerRuns.{replies_more, store_after_more}
-use Rattle.cookie_durable.proofs.CallPrefixes.{prefix_done, prefix_one_more}
+use Rattle.cookie_durable.proofs.CallPrefixes.{prefix_done, prefix_one_more, replies-length}
 use Rattle.cookie_durable.proofs.CommittedCalls.{found_again}
+use Rattle.cookie_durable.proofs.StoppedCalls.{reason_after}
 use Rattle.cookie_durable.proofs.durable_store.DurableStore.apply_each.Goals as goal
 
 pub loop-call-preserved : goal.loop-call-preserved
@@ -60,6 +61,16 @@ returns-in-Err-clause-crash g c = λ works clean db may.
     (λ same. inl (found_again g.S.Store.view g.S.Store.recovers g.met.S.Store.settled c.loop-call.self begun.in_step (begun.works ∙ works)
     (omega (arith, clean, c.apply.ensures.clean)) db same))
     inr (c.apply.ensures.crash clean db may))
+
+pub returns-in-Err-clause-reason : goal.returns-in-Err-clause-reason
+returns-in-Err-clause-reason g c =
+    let begun = c.loop-call.invariant in
+    let executed = map call_view c.loop-call.yielded in
+    reason_after c.in-Err.error _ _ executed (call_view c.in-Some.call) _ _ _ begun.works
+    (ap (map call_view) (sym begun.all ∙ ap (λ xs. c.loop-call.yielded ++ xs) c.in-Some.ensures.steps.0)
+    ∙ map-append call_view c.loop-call.yielded (c.in-Some.call ∷ _))
+    (sym (replies-length executed c.args.self.now.store) ∙ sym (ap length begun.reported) ∙ length-map c.loop-call.replies.items reply_view)
+    c.in-Err.ensures.reason
 
 pub returns-clause-crash : goal.returns-clause-crash
 returns-clause-crash g c = λ works clean db may.

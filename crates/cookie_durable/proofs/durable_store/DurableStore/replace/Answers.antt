@@ -17,7 +17,7 @@ returns-clause-replaced g c =
     e.replaced
 
 pub returns-clause-crash : goal.returns-clause-crash
-returns-clause-crash g c works clean db may =
+returns-clause-crash g c clean db may =
     let e = c.write_new_rows-replaced.ensures in
     subst (λ (d : Durable _). g.S.Store.recovers d.file db ⊎ (db d.table ≡ new_rows c.args.cookies.now.rows)) c.self.view_is
     (e.crash c.self.inside.store c.self.inside.next clean
