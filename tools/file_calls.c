@@ -1,22 +1,27 @@
 // Records the calls on files that a program makes, and makes some fail: preloaded (LD_PRELOAD), it
-// replaces the C library's `pread`, `pwrite`, `ftruncate`, `fsync`, `fdatasync` and `write`, and
-// passes on the calls that do not fail. `tools/durable` builds it.
+// replaces the C library's `pread`, `pwrite`, `ftruncate`, `fsync`, `fdatasync`, `read`, `write` and
+// `getentropy`, and passes on the calls that do not fail. `tools/durable` and `tools/examples` build
+// it.
 //
-//   CALLS_FOLDER=FOLDER  the folder; calls on its files and on itself count, and no others
-//   CALLS_RECORD=FILE    the file to which each write, cut and sync that succeeds is appended, and
-//                        each write to standard output, called `print`: a line with the call, the
-//                        offset or new length, the number of bytes and the name of the file, and
-//                        then the bytes
+//   CALLS_FOLDER=FOLDER  the folder; calls on its files and on itself count, and no others but those
+//                        on standard input and output, by `read` and `write`
+//   CALLS_RECORD=FILE    the file to which each write, cut and sync that succeeds is appended, each
+//                        read of standard input, called `read`, and each write to standard output,
+//                        called `print`: a line with the call, the offset or new length, the number
+//                        of bytes and the name of the file, and then the bytes
+//   CALLS_MOST=n         the most bytes that a read of standard input or a write to standard output
+//                        moves, if calls of its kind count
 //   FAIL_CALL=k          the call that fails, from 1
-//   FAIL_KINDS=rwcs      the kinds of calls that count: reads, writes, cuts, syncs
-//   FAIL_ERROR=n         the error that it sets; without it a write writes half of its bytes
+//   FAIL_KINDS=rwcsioe   the kinds of calls that count: reads, writes, cuts, syncs, reads of standard
+//                        input, writes to standard output, and calls for random bytes
+//   FAIL_ERROR=n         the error that it sets; without it a `pwrite` writes half of its bytes
 //   FAIL_LATER=1         the later calls of these kinds fail too
 //   FAIL_MARK=FILE       the file that is created when a call fails
 //
 // There are no headers, as in fail_allocation.c. The numbers of the system's calls are those of
 // x86-64, the only processor of the toolchain.
 
-enum { WRITE = 1, PREAD = 17, PWRITE = 18, FSYNC = 74, FDATASYNC = 75, FTRUNCATE = 77 };
+enum { READ = 0, WRITE = 1, PREAD = 17, PWRITE = 18, FSYNC = 74, FDATASYNC = 75, FTRUNCATE = 77, GETRANDOM = 318 };
 enum { APPEND = 02000 | 0100 | 1 }; // O_APPEND | O_CREAT | O_WRONLY
 enum outcome { PASSES, IS_SHORT, FAILS };
 
@@ -123,10 +128,33 @@ int fdatasync(int file) {
     return synced(file, FDATASYNC);
 }
 
+// How many bytes a call of this kind moves at most.
+static size_t at_most(size_t length, char kind) {
+    const char *kinds = getenv("FAIL_KINDS");
+    if (!kinds || !strchr(kinds, kind) || !getenv("CALLS_MOST")) return length;
+    size_t most = number("CALLS_MOST");
+    return length < most ? length : most;
+}
+
+ssize_t read(int file, void *bytes, size_t length) {
+    if (file != 0) return syscall(READ, file, bytes, length);
+    if (outcome_of("-", 'i') == FAILS) return -1;
+    ssize_t taken = syscall(READ, file, bytes, at_most(length, 'i'));
+    if (taken >= 0) record("read", 0, bytes, taken, "-");
+    return taken;
+}
+
 ssize_t write(int file, const void *bytes, size_t length) {
-    ssize_t written = syscall(WRITE, file, bytes, length);
-    if (file == 1 && written > 0) record("print", 0, bytes, written, "-");
+    if (file != 1) return syscall(WRITE, file, bytes, length);
+    if (outcome_of("-", 'o') == FAILS) return -1;
+    ssize_t written = syscall(WRITE, file, bytes, at_most(length, 'o'));
+    if (written > 0) record("print", 0, bytes, written, "-");
     return written;
+}
+
+int getentropy(void *bytes, size_t length) {
+    if (outcome_of("-", 'e') == FAILS) return -1;
+    return syscall(GETRANDOM, bytes, length, 0) == (ssize_t)length ? 0 : -1;
 }
 
 // The names by which programs call them that are compiled with 64-bit offsets.

@@ -1,5 +1,5 @@
-//! Tests of a cookie's parts and of the crates below them, on examples from outside the project and
-//! with each allocation failing in turn.
+//! Tests of a cookie's parts and of the crates below them, of maps and of tables, on examples from
+//! outside the project and with each allocation failing in turn.
 #![tactic(auto)]
 
 #[cfg(test)]
@@ -17,6 +17,8 @@ mod expiry;
 #[cfg(test)]
 mod large;
 #[cfg(test)]
+mod maps;
+#[cfg(test)]
 mod messages;
 #[cfg(test)]
 mod parts;
@@ -31,4 +33,8 @@ mod requests;
 #[cfg(test)]
 mod saved;
 #[cfg(test)]
+mod table_rows;
+#[cfg(test)]
 mod times;
+#[cfg(test)]
+mod transactions;

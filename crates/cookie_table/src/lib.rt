@@ -3,8 +3,6 @@
 
 mod building;
 mod reading;
-#[cfg(test)]
-mod tests;
 mod values;
 mod writing;
 

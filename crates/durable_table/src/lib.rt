@@ -3,8 +3,6 @@
 #![tactic(auto)]
 
 mod change;
-#[cfg(test)]
-mod tests;
 mod transaction;
 
 pub use change::Change;

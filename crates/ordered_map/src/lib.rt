@@ -6,8 +6,6 @@ mod gaps;
 mod iter;
 mod map;
 mod retain;
-#[cfg(test)]
-mod tests;
 
 pub use iter::{Iter, Values};
 pub use map::OrderedMap;

@@ -1,9 +1,9 @@
-use super::*;
+//! Maps in insertion order.
+use crate::checks::{is_equal, is_text};
+use ordered_map::OrderedMap;
 use std::alloc::Global;
 use std::hash::{BuildHasherDefault, FoldHasher};
 use std::process::Abort;
-use std::string::String;
-use std::test::*;
 
 type Map = OrderedMap<u32, BuildHasherDefault<FoldHasher>>;
 
@@ -64,17 +64,13 @@ fn write(place: Option<&mut u32>, value: u32) {
     }
 }
 
-fn is_value(rt: &impl Abort, found: Option<u32>, expected: Option<u32>) {
-    assert_eq!(rt; found, expected);
-}
-
 fn make(rt: &impl Abort, map: &mut Map, edit: &Edit) {
     match edit {
         Edit::Add(key, value) => add(rt, map, key, *value),
         Edit::Write(key, value) => write(map.get_mut(key), *value),
         Edit::WriteAt(position, value) => write(map.at_mut(*position), *value),
-        Edit::Remove(key, value) => is_value(rt, map.remove(key), *value),
-        Edit::RemoveAt(position, value) => is_value(rt, map.remove_at(*position), *value),
+        Edit::Remove(key, value) => is_equal(rt, &map.remove(key), value, key),
+        Edit::RemoveAt(position, value) => is_equal(rt, &map.remove_at(*position), value, position),
         Edit::MoveToEnd(key) => map.move_to_end(key),
         Edit::RetainOdd => map.retain(|_key: &String, value: &mut u32| -> bool {
             *value = value.wrapping_add(10);
@@ -95,8 +91,7 @@ fn shown(rt: &impl Abort, map: &Map) -> String {
 }
 
 fn has_entries(rt: &impl Abort, map: &Map, expected: &str) {
-    let shown = shown(rt, map);
-    assert_eq!(rt; shown.as_str(), expected);
+    is_text(rt, shown(rt, map).as_str(), expected, &"the entries");
 }
 
 #[test]

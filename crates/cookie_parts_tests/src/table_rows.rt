@@ -1,12 +1,13 @@
-use crate::{from_row, to_row};
+//! Cookies as rows of a table.
+use crate::checks::{is_equal, is_text};
 use cookie_forms::SavedError;
 use cookie_parts::Cookie;
+use cookie_table::{from_row, to_row};
 use jiff::civil::date;
 use sqlite_value::row::Row;
 use sqlite_value::value::ValueRef;
 use std::alloc::{AllocError, Global};
 use std::process::Abort;
-use std::test::*;
 use url::Url;
 
 // Received from https://shop.example/p/q.
@@ -44,27 +45,38 @@ fn shown(alloc: Global, row: &Row) -> Result<String, AllocError> {
     Ok(text)
 }
 
+fn row_of(rt: &impl Abort, alloc: Global, header: &str) -> Row {
+    let cookie = parsed(rt, alloc, header);
+    to_row(alloc, 7, &cookie).expect(rt, "memory")
+}
+
+fn reads_back(rt: &impl Abort, alloc: Global, row: &Row, header: &str) {
+    let cookie = from_row(alloc, row).expect(rt, "a row of a cookie");
+    is_equal(rt, &cookie, &parsed(rt, alloc, header), &header);
+}
+
 #[test]
 fn a_row_reads_back(rt: HostRuntime) {
     for header in &HEADERS {
-        let cookie = parsed(&rt, rt.alloc(), header);
-        let row = to_row(rt.alloc(), 7, &cookie).expect(&rt, "memory");
-        let back = from_row(rt.alloc(), &row).expect(&rt, "a row of a cookie");
-        assert!(rt; back == cookie, "{header}");
+        let row = row_of(&rt, rt.alloc(), header);
+        reads_back(&rt, rt.alloc(), &row, header);
     }
 }
 
 #[test]
 fn a_row_has_a_value_for_each_column(rt: HostRuntime) {
-    let row = to_row(rt.alloc(), 7, &parsed(&rt, rt.alloc(), HEADERS[1])).expect(&rt, "memory");
-    assert_eq!(rt;
-        shown(rt.alloc(), &row).expect(&rt, "memory").as_str(),
-        COLUMNS
-    );
+    let row = row_of(&rt, rt.alloc(), HEADERS[1]);
+    let shown = shown(rt.alloc(), &row).expect(&rt, "memory");
+    is_text(&rt, shown.as_str(), COLUMNS, &"the columns");
 }
 
 #[test]
 fn another_row_is_rejected(rt: HostRuntime) {
     let result = from_row(rt.alloc(), &Row::new(rt.alloc()));
-    assert_eq!(rt; result.err(), Some(SavedError::Shape));
+    is_equal(
+        &rt,
+        &result.err(),
+        &Some(SavedError::Shape),
+        &"an empty row",
+    );
 }

@@ -1,8 +1,9 @@
+//! Transactions of a table, in memory.
 ghost use Rattle.std.specs.Prelude.{◌≡◌, IfOk};
 ghost use Rattle.std.specs.List.{All};
 ghost use Rattle.durable_table.specs.Changes.{HasRowid};
 
-use crate::{Change, commit_each, commit_each_then_crash};
+use durable_table::{Change, commit_each, commit_each_then_crash};
 use sqlite_trees::error::StoreError;
 use sqlite_trees::memory::MemStore;
 use sqlite_trees::schema::Object;
