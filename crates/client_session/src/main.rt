@@ -11,6 +11,9 @@ use std::alloc::Global;
 use std::fs::{self, Files};
 use url::{ParseError, Url};
 
+/// The site of the client.
+const SITE: &str = "https://shop.example/";
+
 /// The file that keeps the cookies between two runs.
 const FILE: &str = "cookies.json";
 
@@ -103,16 +106,31 @@ fn print_header(rt: &HostRuntime, header: Option<String>) -> Result<(), Error> {
     }
 }
 
-/// Runs the client twice, with a save in between.
+/// Stores the cookies of a response, prints the header of the next request, and saves the cookies.
+fn visit(rt: &HostRuntime, session: &mut Session, now: DateTime) -> Result<(), Error> {
+    session.receive(rt, &HEADERS, now)?;
+    print_header(rt, session.header(now)?)?;
+    session.save(rt)
+}
+
+/// Runs the client for the first time.
+fn first_run(rt: &HostRuntime, now: DateTime) -> Result<(), Error> {
+    let site = url_of(rt.alloc(), SITE)?;
+    visit(rt, &mut Session::adopt(rt.alloc(), rt, site, now)?, now)
+}
+
+/// Runs the client again, with the cookies that it saved.
+fn next_run(rt: &HostRuntime, now: DateTime) -> Result<(), Error> {
+    let site = url_of(rt.alloc(), SITE)?;
+    let session = Session::load(rt.alloc(), rt, site, now)?;
+    print_header(rt, session.header(now)?)
+}
+
+/// Runs the client twice.
 fn run(rt: &HostRuntime) -> Result<(), Error> {
-    let (alloc, now) = (rt.alloc(), date(2026, 1, 1).at(0, 0, 0, 0));
-    let site = url_of(alloc, "https://shop.example/")?;
-    let mut first = Session::adopt(alloc, rt, site.clone()?, now)?;
-    first.receive(rt, &HEADERS, now)?;
-    print_header(rt, first.header(now)?)?;
-    first.save(rt)?;
-    let next = Session::load(alloc, rt, site, now)?;
-    print_header(rt, next.header(now)?)
+    let now = date(2026, 1, 1).at(0, 0, 0, 0);
+    first_run(rt, now)?;
+    next_run(rt, now)
 }
 
 fn main(rt: HostRuntime) -> Result<(), Error> {

@@ -81,19 +81,41 @@ fn url_of(alloc: Global, text: &str) -> Result<Url, Error> {
     }
 }
 
+/// Prints the header of a request for the page.
+fn print_header(
+    rt: &HostRuntime,
+    crawler: &Crawler,
+    page: &Url,
+    now: DateTime,
+) -> Result<(), Error> {
+    let header = crawler.header(page, now)?;
+    let header = header.as_deref().unwrap_or("no cookies");
+    println!(rt; "{page} ({header})").map_err(|_| Error::Io)
+}
+
+/// Stores the cookies of the page, and prints what became of each.
+fn take_each(
+    rt: &HostRuntime,
+    crawler: &mut Crawler,
+    texts: &[&str],
+    page: &Url,
+    now: DateTime,
+) -> Result<(), Error> {
+    for text in texts {
+        let outcome = crawler.take(text, page, now)?;
+        println!(rt; "  {text}: {outcome}").map_err(|_| Error::Io)?;
+    }
+    Ok(())
+}
+
 /// Visits the pages, one after the other.
 fn run(rt: &HostRuntime) -> Result<(), Error> {
-    let (alloc, now) = (rt.alloc(), date(2026, 1, 1).at(0, 0, 0, 0));
+    let now = date(2026, 1, 1).at(0, 0, 0, 0);
     let mut crawler = Crawler::new(rt)?;
     for (address, texts) in &PAGES {
-        let page = url_of(alloc, address)?;
-        let header = crawler.header(&page, now)?;
-        let header = header.as_deref().unwrap_or("no cookies");
-        println!(rt; "{address} ({header})").map_err(|_| Error::Io)?;
-        for text in *texts {
-            let outcome = crawler.take(text, &page, now)?;
-            println!(rt; "  {text}: {outcome}").map_err(|_| Error::Io)?;
-        }
+        let page = url_of(rt.alloc(), address)?;
+        print_header(rt, &crawler, &page, now)?;
+        take_each(rt, &mut crawler, texts, &page, now)?;
     }
     Ok(())
 }
