@@ -13,6 +13,7 @@ pub mod RowEdits
 pub mod SavedFiles
 pub mod SessionRows
 pub mod StoppedCalls
+pub mod StoredCalls
 pub mod StrictCalls
 pub mod SweptFiles
 pub mod SweptRows

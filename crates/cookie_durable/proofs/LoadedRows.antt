@@ -70,17 +70,22 @@ pub names_key : (names : Names) (view cookie : Cookie) (domain path name : List 
 names_key names view cookie domain path name same key d p n =
     key ∙ (λ i. key_at ((d ∙ ap (λ (c : Cookie). domain_text c.domain) same) i) ((p ∙ ap (λ (c : Cookie). c.path.text) same) i) (n i))
 
--- the same for rows and rowids as they are stored
-pub loaded_one : (old new : RowsInOrder) (cookie : Cookie) (names : Names) (ids new_ids : Ids) (next id new_id new_next : ℤ) (row : TableRow)
-    → key_in names ≡ key_of cookie → cookie_in row ≡ Some cookie → rowid row ≡ Int id → id_of (key_in names) ids ≡ None
-    → new ≡ record { rows = put old.rows cookie; created = add_created old.created (key_of cookie) }
-    → id_of (key_in names) new_ids ≡ Some new_id
+-- the key of names that had no rowid has this one
+pub id_added : (names : Names) (key : Key) (ids new_ids : Ids) (id new_id : ℤ) → key_in names ≡ key → id_of (key_in names) new_ids ≡ Some new_id
     → KeepsOthers (λ (a b : Names). same_key (key_in a) (key_in b)) (λ (other : Names). same_key (key_in names) (key_in other)) ids new_ids
-    → new_id ≡ id → new_next ≡ id +ℤ pos 1 → (rows : List TableRow) → IsTable (rows ++ row ∷ []) → IsNumbered (contents_of old None None) ids next rows
+    → new_id ≡ id → SetsId key (Some id) ids new_ids
+id_added names key ids new_ids id new_id same now keeps id_is =
+    subst (λ (k : Key). SetsId k (Some id) ids new_ids) same (sets_id names (Some id) ids new_ids (now ∙ ap Some id_is) keeps)
+
+-- the same for rows and rowids as they are stored
+pub loaded_one : (old new : RowsInOrder) (cookie : Cookie) (ids new_ids : Ids) (next id new_id new_next : ℤ) (row : TableRow)
+    → cookie_in row ≡ Some cookie → rowid row ≡ Int id → id_of (key_of cookie) ids ≡ None → SetsId (key_of cookie) (Some new_id) ids new_ids → new_id ≡ id
+    → new ≡ record { rows = put old.rows cookie; created = add_created old.created (key_of cookie) }
+    → new_next ≡ id +ℤ pos 1 → (rows : List TableRow) → IsTable (rows ++ row ∷ []) → IsNumbered (contents_of old None None) ids next rows
     → IsNumbered (contents_of new None None) new_ids new_next (rows ++ row ∷ [])
-loaded_one old new cookie names ids new_ids next id new_id new_next row same reads own none taken now keeps id_is counted rows table numbered =
+loaded_one old new cookie ids new_ids next id new_id new_next row reads own none sets id_is taken counted rows table numbered =
+    let sets_own = subst (λ (n : ℤ). SetsId (key_of cookie) (Some n) ids new_ids) id_is sets in
     let more : IsNumbered (with_cookie (contents_of old None None) cookie) new_ids (id +ℤ pos 1) (rows ++ row ∷ []) =
-    added (contents_of old None None) cookie (key_in names) ids new_ids next id rows row same reads own none
-    (sets_id names (Some id) ids new_ids (now ∙ ap Some id_is) keeps) table numbered in
+    added (contents_of old None None) cookie (key_of cookie) ids new_ids next id rows row refl reads own none sets_own table numbered in
     subst (λ (r : RowsInOrder). IsNumbered (contents_of r None None) new_ids new_next (rows ++ row ∷ [])) (sym taken)
     (subst (λ (n : ℤ). IsNumbered (with_cookie (contents_of old None None) cookie) new_ids n (rows ++ row ∷ [])) (sym counted) more)

@@ -1,12 +1,11 @@
 -- What a call under the rules of browsers touches: as the plain call that it becomes, or nothing.
-use Rattle.std.proofs.Common.{◌≡◌, ℕ, ℤ, true, IsTrue, List, [], ◌∷◌, ◌++◌, Option, Some, None, Result, Ok, Err, OnErr, OnOk, ◌⊎◌, inl, inr, ⊎_elim, refl, sym, ap, subst, ◌∙◌}
-use Rattle.std.specs.Prelude.{filter, is_some, IfErr, IfSome, IsErrAnd}
-use Rattle.std.specs.Result.{result_map_both, result_ok}
+use Rattle.std.proofs.Common.{◌≡◌, ℕ, ℤ, List, [], ◌∷◌, ◌++◌, Option, Some, None, Result, Ok, Err, OnErr, OnOk, ◌⊎◌, inl, inr, ⊎_elim, refl, sym, ap, subst, ◌∙◌}
+use Rattle.std.specs.Prelude.{filter, is_some, IfSome}
+use Rattle.std.specs.Result.{result_map_both}
 use Rattle.url.specs.Parts.{Parts}
 use Rattle.sqlite_trees.specs.View.{View}
 use Rattle.cookie_words.specs.Moments.{Moment}
 use Rattle.cookie_parts.specs.Cookie.{Row, and_then}
-use Rattle.cookie_parts.specs.Hosts.{passes}
 use Rattle.cookie_parts.specs.declared.cookie_error.CookieError.{CookieError}
 use Rattle.cookie_parts.specs.declared.cookie_error.CookieError.TheVariants.{Memory}
 use Rattle.cookie_parts.specs.declared.store_action.StoreAction.{StoreAction}
@@ -25,11 +24,8 @@ use Rattle.cookie_strict.specs.StrictRuns.{allowed_insertion, if_accepted, plain
 use Rattle.cookie_strict.specs.declared.context.Context.{Context}
 use Rattle.cookie_strict.specs.declared.error.StrictError.{StrictError}
 use Rattle.cookie_strict.specs.declared.error.StrictError.TheVariants.{Cookie}
-use Rattle.cookie_durable.specs.Checks.{greatest_rowid, is_unstorable_at}
 use Rattle.cookie_durable.specs.Durable.{IsSaved}
 use Rattle.cookie_durable.specs.Numbering.{Ids, Names, Touches, key_in}
-use Rattle.cookie_durable.specs.declared.durable_error.DurableError.{DurableError}
-use Rattle.cookie_durable.specs.declared.durable_error.DurableError.TheVariants.{Full, OutOfMemory, Unstorable}
 use Rattle.cookie_durable.proofs.TouchedKeys.{accept-touches, created_by}
 
 -- a call that changes nothing touches any key
@@ -156,24 +152,3 @@ left_by_reply (Err error) allowed old new replied known stored unchanged =
 -- what holds of the value of an option
 pub when_some : {A : Type 0} (found : Option A) (value : A) (P : A → Type 0) → found ≡ Some value → IfSome found P → P value
 when_some found value P is holds = subst (λ o. IfSome o P) is holds
-
--- why the cookie of a header value cannot be written
-pub reason_in_header : (draft : Result Row CookieError) (cookie : Row) (now : Moment) (e : DurableError) (next : ℤ) → draft ≡ Ok cookie
-    → ((e ≡ Unstorable) × IsTrue (is_unstorable_at now cookie)) ⊎ (((e ≡ Full) × (next ≡ greatest_rowid)) ⊎ (e ≡ OutOfMemory))
-    → ((e ≡ Unstorable) × IsTrue (passes (is_unstorable_at now) (result_ok draft)))
-    ⊎ (((e ≡ Full) × IsTrue (is_some (result_ok draft)) × (next ≡ greatest_rowid)) ⊎ (e ≡ OutOfMemory))
-reason_in_header draft cookie now e next is reason =
-    let P : Result Row CookieError → Type 0 = λ d. ((e ≡ Unstorable) × IsTrue (passes (is_unstorable_at now) (result_ok d)))
-    ⊎ (((e ≡ Full) × IsTrue (is_some (result_ok d)) × (next ≡ greatest_rowid)) ⊎ (e ≡ OutOfMemory)) in
-    subst P (sym is) (of_cookie reason)
-  where
-    of_cookie : ((e ≡ Unstorable) × IsTrue (is_unstorable_at now cookie)) ⊎ (((e ≡ Full) × (next ≡ greatest_rowid)) ⊎ (e ≡ OutOfMemory))
-        → ((e ≡ Unstorable) × IsTrue (is_unstorable_at now cookie)) ⊎ (((e ≡ Full) × (true ≡ true) × (next ≡ greatest_rowid)) ⊎ (e ≡ OutOfMemory))
-    of_cookie (inl unstorable) = inl unstorable
-    of_cookie (inr (inl (same, last))) = inr (inl (same, refl, last))
-    of_cookie (inr (inr same)) = inr (inr same)
-
--- what holds of an error holds of the result that has it
-pub when_err : {T E : Type 0} (result : Result T E) (error : E) (P : E → Type 0) → IsErrAnd result (λ e. e ≡ error) → P error → IfErr result P
-when_err (Ok value) error P is holds = absurd is
-when_err (Err e) error P is holds = subst P (sym is) holds

@@ -57,11 +57,11 @@ IsReasonFor (NotWritten cause) d unstorable cookie = Unit {0}
 abbrev pub IsReasonOf : {S : Type 0} → DurableError → Durable S → Call → Type 0
 IsReasonOf error d call = IsReasonFor error d is_unstorable (cookie_of_call call)
 
--- the test passes of the cookie that the call behind the first `done` is to insert
+-- the test passes of the cookie that the call after the first `done` is to insert
 abbrev pub IsNext : (Option Row → Bool) → ℕ → List Call → Type 0
 IsNext test done calls = (call : Call) × (slice_get calls done ≡ Some call) × IsTrue (test (cookie_of_call call))
 
--- why calls stop behind the first `done`: as the next may fail alone, but not that no rowid is left then
+-- why calls stop after the first `done`: as the next may fail alone, but not that no rowid is left then
 abbrev pub IsReasonAfter : {S : Type 0} → DurableError → Durable S → ℕ → List Call → Type 0
 IsReasonAfter Failed d done calls = IsTrue d.is_failed
 IsReasonAfter Unstorable d done calls = IsNext (passes is_unstorable) done calls

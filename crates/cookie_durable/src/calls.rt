@@ -18,7 +18,7 @@ use crate::receiving::{insert_received, parse_header};
 use crate::writing::write_cookie;
 use crate::{DurableError, DurableStore};
 use cookie_core::InsertResult;
-use cookie_parts::Cookie;
+use cookie_parts::{Cookie, StoreAction};
 use durable_table::commit;
 use jiff::civil::DateTime;
 use sqlite_trees::store::Store;
@@ -96,17 +96,9 @@ impl<S: Store> DurableStore<S> {
         ensures table { self.new.table ≡ self.old.table }
         ensures clean { doubt (S.Store.view self.old.file).is_clean ≤ doubt (S.Store.view self.new.file).is_clean }
     {
-        if self.is_failed {
-            return Err(DurableError::Failed);
-        }
         let names = self.names_to_write(alloc, &cookie)?;
-        match insert_received(&mut self.store, cookie, url, now)? {
-            Ok(action) => {
-                self.write(alloc, names)?;
-                Ok(Ok(action))
-            }
-            Err(rejection) => Ok(Err(rejection)),
-        }
+        let stored = insert_received(&mut self.store, cookie, url, now)?;
+        self.write_if_stored(alloc, names, stored)
     }
 
     /// Removes and returns the cookie with this domain, path and name, expired or not, and commits
@@ -181,6 +173,39 @@ impl<S: Store> DurableStore<S> {
                 Ok(())
             }
             Err(error) => Err(DurableError::NotWritten(error)),
+        }
+    }
+
+    /// Commits the cookie of a key unless it was rejected, and returns `stored`.
+    pub(crate) fn write_if_stored<E>(
+        &mut self,
+        alloc: Global,
+        names: Names,
+        stored: Result<StoreAction, E>,
+    ) -> Result<Result<StoreAction, E>, DurableError>
+        requires { IsClean (S.Store.view self.old.file) → IsReady self.old.table (S.Store.view self.old.file) }
+        ensures ready { IsClean (S.Store.view self.new.file) → IsReady self.new.table (S.Store.view self.new.file) }
+        ensures saved { OnOk result (OnOk stored ((before : Contents) → Touches (key_in names) before self.old.store → IsClean (S.Store.view self.new.file)
+            → IsSaved before self.old.ids self.old.next self.old.table (S.Store.view self.old.file)
+            → IsSaved self.new.store self.new.ids self.new.next self.new.table (S.Store.view self.new.file))) }
+        ensures crash { OnOk stored ((before : Contents) → Touches (key_in names) before self.old.store → IsClean (S.Store.view self.new.file)
+            → IsSaved before self.old.ids self.old.next self.old.table (S.Store.view self.old.file)
+            → (db : Trees) → S.Store.recovers self.new.file db → S.Store.recovers self.old.file db ⊎ Holds self.old.store (db self.old.table)) }
+        ensures rejected { OnErr stored (self.new ≡ self.old) }
+        ensures reply { IfOk result (λ reply. reply ≡ stored) }
+        ensures ok { OnOk result (OnOk stored (self.new.is_failed ≡ false)) }
+        ensures err { OnErr result (self.new.is_failed ≡ true) }
+        ensures error { IfErr result IsNotWritten }
+        ensures store { self.new.store ≡ self.old.store }
+        ensures table { self.new.table ≡ self.old.table }
+        ensures clean { doubt (S.Store.view self.old.file).is_clean ≤ doubt (S.Store.view self.new.file).is_clean }
+    {
+        match stored {
+            Ok(action) => {
+                self.write(alloc, names)?;
+                Ok(Ok(action))
+            }
+            Err(rejection) => Ok(Err(rejection)),
         }
     }
 

@@ -1,10 +1,11 @@
 //! Checks of a cookie before anything changes.
-ghost use Rattle.std.specs.Prelude.{◌≡◌, ◌↔◌, ◌⊎◌, ◌<◌, ◌^◌, Err, IfErr, IfOk, IsTrue};
+ghost use Rattle.std.specs.Prelude.{◌≡◌, ◌↔◌, ◌⊎◌, ◌<◌, ◌^◌, false, Err, IfErr, IfOk, IsTrue, OnOk, Some};
 ghost use Rattle.std.specs.Option.{option_copied};
 ghost use Rattle.cookie_words.specs.Moments.{moment_of};
 ghost use Rattle.cookie_laws.specs.Rows.{key_of};
 ghost use Rattle.cookie_table.specs.Columns.{table_row};
-ghost use Rattle.cookie_durable.specs.Checks.{greatest_rowid, is_unstorable, is_unstorable_at, len_if_any, text_len};
+ghost use Rattle.cookie_durable.specs.Checks.{is_unstorable, is_unstorable_at, len_if_any, text_len, IsReasonFor};
+ghost use Rattle.cookie_durable.specs.Durable.{IsNotWritten};
 ghost use Rattle.cookie_durable.specs.Numbering.{key_in};
 
 use crate::numbering::{Names, names_of};
@@ -26,6 +27,7 @@ impl<S: Store> DurableStore<S> {
     /// # Errors
     ///
     /// In the order in which they are checked:
+    /// - `Failed`: an earlier call returned `NotWritten`.
     /// - `Unstorable`: its strings have more than 999,999,000 bytes together, or its expiry or Expires
     ///   attribute is before the year 0.
     /// - `Full`: no rowid is left.
@@ -36,10 +38,15 @@ impl<S: Store> DurableStore<S> {
         cookie: &Cookie<'static>,
     ) -> Result<Names, DurableError>
         ensures key { IfOk result (λ names. key_in names ≡ key_of cookie.now) }
-        ensures unstorable { IsTrue (is_unstorable cookie.now) → result ≡ Err DurableError.Unstorable }
-        ensures errors { IfErr result (λ e. ((e ≡ DurableError.Unstorable) × IsTrue (is_unstorable cookie.now))
-            ⊎ (((e ≡ DurableError.Full) × (self.now.next ≡ greatest_rowid)) ⊎ (e ≡ DurableError.OutOfMemory))) }
+        ensures works { OnOk result (self.now.is_failed ≡ false) }
+        ensures failed { IsTrue self.now.is_failed → result ≡ Err DurableError.Failed }
+        ensures unstorable { self.now.is_failed ≡ false → IsTrue (is_unstorable cookie.now) → result ≡ Err DurableError.Unstorable }
+        ensures reason { IfErr result (λ e. IsReasonFor e self.now is_unstorable (Some cookie.now)) }
+        ensures early { IfErr result (λ e. ¬ IsNotWritten e) }
     {
+        if self.is_failed {
+            return Err(DurableError::Failed);
+        }
         row_for(alloc, 0, cookie)?;
         if self.next == i64::MAX {
             return Err(DurableError::Full);
@@ -67,11 +74,13 @@ impl<S: Store> DurableStore<S> {
         now: DateTime,
     ) -> Result<Names, DurableError>
         ensures key { IfOk result (λ names. key_in names ≡ key_of cookie.now) }
-        ensures unstorable { IsTrue (is_unstorable_at (moment_of now) cookie.now) → result ≡ Err DurableError.Unstorable }
-        ensures errors { IfErr result (λ e. ((e ≡ DurableError.Unstorable) × IsTrue (is_unstorable_at (moment_of now) cookie.now))
-            ⊎ (((e ≡ DurableError.Full) × (self.now.next ≡ greatest_rowid)) ⊎ (e ≡ DurableError.OutOfMemory))) }
+        ensures works { OnOk result (self.now.is_failed ≡ false) }
+        ensures failed { IsTrue self.now.is_failed → result ≡ Err DurableError.Failed }
+        ensures unstorable { self.now.is_failed ≡ false → IsTrue (is_unstorable_at (moment_of now) cookie.now) → result ≡ Err DurableError.Unstorable }
+        ensures reason { IfErr result (λ e. IsReasonFor e self.now (is_unstorable_at (moment_of now)) (Some cookie.now)) }
+        ensures early { IfErr result (λ e. ¬ IsNotWritten e) }
     {
-        if now.year() < 0 {
+        if !self.is_failed && now.year() < 0 {
             return Err(DurableError::Unstorable);
         }
         self.names_to_write(alloc, cookie)

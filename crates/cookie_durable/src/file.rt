@@ -1,5 +1,6 @@
 //! Opening the file of a path.
 ghost use Rattle.std.specs.Prelude.{◌≡◌, false, IfErr, IfOk, IsTrue};
+ghost use Rattle.std.specs.Result.{result_map_both};
 ghost use Rattle.sqlite_wal.specs.Files.{image_at};
 ghost use Rattle.sqlite_trees.specs.View.{IsClean};
 ghost use Rattle.sqlite_store.specs.FileStore.{is_shielded, view};
@@ -83,26 +84,26 @@ impl<S: Start> DurableStore<FileStore<FileFrom<S>>> {
         ensures found { IfOk result (λ d. IsClean (view d.file) → FindsCookies keep_session (image_at S.Start) d.store) }
         ensures guarded { IfOk result (λ d. IsClean (view d.file) → is_shielded d.file) }
     {
-        let options = match options(rt) {
-            Ok(options) => options,
-            Err(error) => return Err(OpenError::of_system(error.kind())),
-        };
-        if let Err(error) = make_private(rt, path) {
-            return Err(OpenError::of_system(error.kind()));
-        }
-        let files = match sqlite_std_file::open(rt, path, start) {
-            Ok(files) => files,
-            Err(error) => return Err(OpenError::from(error)),
-        };
-        match DurableStore::open_files(rt.alloc(), files, options, keep_session) {
-            Ok(opened) => Ok(opened),
-            Err((error, _)) => Err(error),
-        }
+        let options = options(rt)?;
+        make_private(rt, path)?;
+        let files = sqlite_std_file::open(rt, path, start)?;
+        let opened = DurableStore::open_files(rt.alloc(), files, options, keep_session);
+        without_leftover(opened)
+    }
+}
+
+// Drops what is left of an open that failed.
+fn without_leftover<T, L: Drop>(opened: Result<T, (OpenError, L)>) -> Result<T, OpenError>
+    ensures { result ≡ result_map_both (λ it. it) (λ left. left.0) opened }
+{
+    match opened {
+        Ok(it) => Ok(it),
+        Err((error, _)) => Err(error),
     }
 }
 
 // Creates the file if it is missing, for its owner alone.
-fn make_private(rt: &HostRuntime, path: &str) -> io::Result<()> {
+fn make_private(rt: &HostRuntime, path: &str) -> Result<(), OpenError> {
     match OpenOptions::new()
         .write(true)
         .create_new(true)
@@ -111,12 +112,14 @@ fn make_private(rt: &HostRuntime, path: &str) -> io::Result<()> {
     {
         Ok(_) => Ok(()),
         Err(error) if error.kind() == io::ErrorKind::AlreadyExists => Ok(()),
-        Err(error) => Err(error),
+        Err(error) => Err(OpenError::of_system(error.kind())),
     }
 }
 
 // Returns the options of the kit, with a random seed for the salts of the log.
-fn options(rt: &HostRuntime) -> io::Result<Options> {
-    let seed = RandomState::new(rt)?.hash_one(&0u8);
-    Ok(Options::new(seed))
+fn options(rt: &HostRuntime) -> Result<Options, OpenError> {
+    match RandomState::new(rt) {
+        Ok(state) => Ok(Options::new(state.hash_one(&0u8))),
+        Err(error) => Err(OpenError::of_system(error.kind())),
+    }
 }

@@ -5,9 +5,10 @@ ghost use Rattle.sqlite_trees.specs.Tree.{IsTable};
 ghost use Rattle.sqlite_trees.specs.View.{IsClean, IsQuiet};
 ghost use Rattle.durable_table.specs.Transactions.{IsReady};
 ghost use Rattle.cookie_laws.specs.Contents.{contents_of};
+ghost use Rattle.cookie_laws.specs.Rows.{key_of};
 ghost use Rattle.cookie_table.specs.FromColumns.{cookie_in};
 ghost use Rattle.cookie_durable.specs.Durable.{IsUnwritten};
-ghost use Rattle.cookie_durable.specs.Numbering.{IsNumbered};
+ghost use Rattle.cookie_durable.specs.Numbering.{id_of, IsNumbered, SetsId};
 
 use crate::OpenError;
 use crate::numbering::{Ids, names_of};
@@ -49,8 +50,7 @@ pub(crate) fn load<S: Store>(
     ensures unwritten { OnOk result (IsClean (S.Store.view file.new) → IsUnwritten (S.Store.view file.old) (S.Store.view file.new)) }
     ensures quiet { IsQuiet S.Store.view S.Store.faults S.Store.recovers S.Store.is_shielded file.old file.new }
 {
-    let first = Row::new(alloc.alloc);
-    file.seek(0, table, &first, Direction::Forward)?;
+    file.seek(0, table, &Row::new(alloc.alloc), Direction::Forward)?;
     let mut loaded = Loaded {
         rows: Rows::new(alloc),
         ids: IndexMap::with_hasher(alloc.alloc, alloc.hash_key),
@@ -79,21 +79,30 @@ fn add(alloc: Global, loaded: &mut Loaded, row: &Row) -> Result<(), OpenError>
         return Err(OpenError::Full);
     };
     let cookie = read_cookie(alloc, row)?;
+    add_id(alloc, &mut loaded.ids, &cookie, id)?;
+    loaded.rows.take(cookie, true, epoch())?;
+    loaded.next = next;
+    Ok(())
+}
+
+// Adds the rowid of a cookie, which must not have one.
+fn add_id(alloc: Global, ids: &mut Ids, cookie: &Cookie<'static>, id: i64) -> Result<(), OpenError>
+    ensures new { OnOk result (id_of (key_of cookie.now) ids.old.entries ≡ None) }
+    ensures ids { OnOk result (SetsId (key_of cookie.now) (Some id) ids.old.entries ids.new.entries) }
+{
     let names = names_of(
         alloc,
         cookie.domain.as_str(),
         cookie.path.as_str(),
         cookie.name(),
     )?;
-    if loaded.ids.get(&names).is_some() {
+    if ids.get(&names).is_some() {
         return Err(OpenError::Damaged);
     }
-    loaded.rows.take(cookie, true, epoch())?;
-    match loaded.ids.insert(names, id) {
+    match ids.insert(names, id) {
         Ok(_) => {}
         Err(_) => return Err(OpenError::OutOfMemory),
     }
-    loaded.next = next;
     Ok(())
 }
 

@@ -1,18 +1,16 @@
 //! Replacing all cookies of a table.
-ghost use Rattle.std.specs.Prelude.{◌≡◌, ◌⊎◌, ◌+◌, ◌≤◌, ℤ, false, map, pos, Err, IfErr, IfNone, IfOk, IfSome, IsTrue, OnErr, OnOk};
+ghost use Rattle.std.specs.Prelude.{◌≡◌, ◌⊎◌, ◌+◌, ◌≤◌, false, map, pos, Err, IfErr, IfNone, IfOk, IfSome, IsTrue, OnErr, OnOk};
 ghost use Rattle.std.specs.List.{list_any, All};
 ghost use Rattle.sqlite_trees.specs.Tree.{Trees};
 ghost use Rattle.sqlite_trees.specs.View.{doubt, IsClean};
 ghost use Rattle.durable_table.specs.Changes.{HasRowid};
 ghost use Rattle.durable_table.specs.Transactions.{IsReady};
-ghost use Rattle.cookie_laws.specs.Contents.{Contents};
 ghost use Rattle.cookie_durable.specs.Checks.{is_unstorable, most_rowids, IsReasonAgainst, IsReasonAgainstRows};
-ghost use Rattle.cookie_durable.specs.Durable.{IsInStep, IsNotWritten, IsSaved};
+ghost use Rattle.cookie_durable.specs.Durable.{IsInStep};
 ghost use Rattle.cookie_durable.specs.Replacing.{new_rows};
 
 use crate::changes::deletions;
 use crate::checking::row_for;
-use crate::numbering::Ids;
 use crate::{DurableError, DurableStore};
 use cookie_core::CookieStore;
 use durable_table::{Change, commit};
@@ -52,50 +50,35 @@ impl<S: Store> DurableStore<S> {
         ensures reason { IfErr result.1 (λ e. IsReasonAgainst e self cookies.now.rows) }
         ensures clean { doubt (S.Store.view self.file).is_clean ≤ doubt (S.Store.view result.0).is_clean }
     {
-        let DurableStore {
-            store: _,
-            mut file,
-            table,
-            ids,
-            next: _,
-            is_failed,
-        } = self;
-        if is_failed {
-            return (file, Err(DurableError::Failed));
-        }
-        let replaced = write_new_rows(alloc, &mut file, table, &ids, cookies);
-        (file, replaced)
+        let mut durable = self;
+        let replaced = durable.write_new_rows(alloc, cookies);
+        (durable.into_file(), replaced)
     }
-}
 
-// Commits the deletion of the rows of these rowids, and the rows of cookies.
-fn write_new_rows<S: Store>(
-    alloc: Global,
-    file: &mut S,
-    table: u32,
-    ids: &Ids,
-    cookies: &CookieStore,
-) -> Result<(), DurableError>
-    requires { IsClean (S.Store.view file.old) → IsReady table (S.Store.view file.old) }
-    ensures ready { IsClean (S.Store.view file.new) → IsReady table (S.Store.view file.new) }
-    ensures replaced { OnOk result ((before : Contents) (next : ℤ) → IsClean (S.Store.view file.new)
-        → IsSaved before ids.now.entries next table (S.Store.view file.old)
-        → (S.Store.view file.new).committed table ≡ new_rows cookies.now.rows) }
-    ensures crash { (before : Contents) (next : ℤ) → IsClean (S.Store.view file.new)
-        → IsSaved before ids.now.entries next table (S.Store.view file.old)
-        → (db : Trees) → S.Store.recovers file.new db → S.Store.recovers file.old db ⊎ (db table ≡ new_rows cookies.now.rows) }
-    ensures kept { OnErr result (IsClean (S.Store.view file.new) → IsTrue (S.Store.view file.new).is_open
-        → (S.Store.view file.new).committed ≡ (S.Store.view file.old).committed) }
-    ensures storable { OnOk result (list_any is_unstorable cookies.now.rows ≡ false) }
-    ensures reason { IfErr result (λ e. IsNotWritten e ⊎ IsReasonAgainstRows e cookies.now.rows) }
-    ensures clean { doubt (S.Store.view file.old).is_clean ≤ doubt (S.Store.view file.new).is_clean }
-{
-    let mut changes = deletions(alloc, ids)?;
-    let mut puts = puts_of(alloc, cookies)?;
-    changes.append(&mut puts)?;
-    match commit(file, table, changes.as_slice()) {
-        Ok(()) => Ok(()),
-        Err(error) => Err(DurableError::NotWritten(error)),
+    // Commits the deletion of all rows, and the rows of other cookies.
+    fn write_new_rows(&mut self, alloc: Global, cookies: &CookieStore) -> Result<(), DurableError>
+        requires { IsInStep self.old (S.Store.view self.old.file) }
+        ensures ready { IsClean (S.Store.view self.new.file) → IsReady self.old.table (S.Store.view self.new.file) }
+        ensures replaced { OnOk result (IsClean (S.Store.view self.new.file) → (S.Store.view self.new.file).committed self.old.table ≡ new_rows cookies.now.rows) }
+        ensures kept { OnErr result (IsClean (S.Store.view self.new.file) → IsTrue (S.Store.view self.new.file).is_open
+            → (S.Store.view self.new.file).committed ≡ (S.Store.view self.old.file).committed) }
+        ensures crash { IsClean (S.Store.view self.new.file) → (db : Trees) → S.Store.recovers self.new.file db
+            → S.Store.recovers self.old.file db ⊎ (db self.old.table ≡ new_rows cookies.now.rows) }
+        ensures failed { IsTrue self.old.is_failed → (result ≡ Err DurableError.Failed) × (self.new ≡ self.old) }
+        ensures storable { OnOk result (list_any is_unstorable cookies.now.rows ≡ false) }
+        ensures reason { IfErr result (λ e. IsReasonAgainst e self.old cookies.now.rows) }
+        ensures clean { doubt (S.Store.view self.old.file).is_clean ≤ doubt (S.Store.view self.new.file).is_clean }
+    {
+        if self.is_failed {
+            return Err(DurableError::Failed);
+        }
+        let mut changes = deletions(alloc, &self.ids)?;
+        let mut puts = puts_of(alloc, cookies)?;
+        changes.append(&mut puts)?;
+        match commit(&mut self.file, self.table, changes.as_slice()) {
+            Ok(()) => Ok(()),
+            Err(error) => Err(DurableError::NotWritten(error)),
+        }
     }
 }
 

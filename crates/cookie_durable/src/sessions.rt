@@ -101,8 +101,7 @@ fn session_deletions<S: Store>(
     ensures unwritten { OnOk result (IsClean (S.Store.view file.new) → IsUnwritten (S.Store.view file.old) (S.Store.view file.new)) }
     ensures quiet { IsQuiet S.Store.view S.Store.faults S.Store.recovers S.Store.is_shielded file.old file.new }
 {
-    let first = Row::new(alloc);
-    file.seek(0, table, &first, Direction::Forward)?;
+    file.seek(0, table, &Row::new(alloc), Direction::Forward)?;
     let mut changes = Vec::new(alloc);
     let mut row = Row::new(alloc);
     'rows: for _ in 0..u64::MAX {

@@ -1,26 +1,25 @@
 //! The calls of `cookie_strict` on a durable store: insertion under the rules of browsers.
 //!
 //! A cookie that the rules allow is inserted as by the plain calls, and the change is committed.
-ghost use Rattle.std.specs.Prelude.{◌≡◌, ◌≢◌, ◌⊎◌, ◌≤◌, false, is_some, Err, IfErr, IfOk, IfSome, IsTrue, None, Ok, Some};
+ghost use Rattle.std.specs.Prelude.{◌≡◌, ◌≢◌, ◌≤◌, false, Err, IfErr, IfOk, IfSome, IsTrue, None, Ok, Some};
 ghost use Rattle.std.specs.Result.{result_ok};
 ghost use Rattle.cookie_words.specs.Moments.{moment_of};
 ghost use Rattle.sqlite_trees.specs.View.{doubt};
 ghost use Rattle.cookie_parts.specs.Cookie.{Row};
-ghost use Rattle.cookie_parts.specs.Hosts.{passes};
 ghost use Rattle.cookie_parts.specs.declared.cookie_error.CookieError.{CookieError};
 ghost use Rattle.cookie_parts.specs.declared.cookie_error.CookieError.TheVariants.{Memory};
 ghost use Rattle.cookie_laws.specs.Rows.{key_of};
 ghost use Rattle.cookie_strict.specs.HeaderValue.{draft_cookie};
 ghost use Rattle.cookie_strict.specs.StrictRuns.{response_call, store_after_call, strict_insertion, IsStrictReply};
 ghost use Rattle.cookie_strict.specs.declared.error.StrictError.TheVariants as strict_error;
-ghost use Rattle.cookie_durable.specs.Checks.{greatest_rowid, is_unstorable_at, IsReasonFor};
-ghost use Rattle.cookie_durable.specs.Durable.{ChangesTo, IsAtomic, IsInStep};
+ghost use Rattle.cookie_durable.specs.Checks.{is_unstorable_at, IsReasonFor};
+ghost use Rattle.cookie_durable.specs.Durable.{ChangesTo, IsAtomic, IsInStep, IsNotWritten};
 ghost use Rattle.cookie_durable.specs.Numbering.{key_in};
 
 use crate::numbering::Names;
 use crate::receiving::{insert_strictly, parse_draft, parse_strictly};
 use crate::{DurableError, DurableStore};
-use cookie_parts::Cookie;
+use cookie_parts::{Cookie, CookieResult};
 pub use cookie_strict::{Context, StrictError, StrictResult};
 use jiff::civil::DateTime;
 use sqlite_trees::store::Store;
@@ -63,16 +62,12 @@ pub fn parse_in_context<S: Store>(
     if durable.is_failed {
         return Err(DurableError::Failed);
     }
-    let Some(names) = names_in_header(durable, alloc, text, url, now)? else {
+    let names = names_in_header(durable, alloc, text, url, now)?;
+    let stored = parse_strictly(&mut durable.store, text, url, context, now)?;
+    match names {
+        Some(names) => durable.write_if_stored(alloc, names, stored),
         // rejected
-        return Ok(parse_strictly(&mut durable.store, text, url, context, now)?);
-    };
-    match parse_strictly(&mut durable.store, text, url, context, now)? {
-        Ok(action) => {
-            durable.write(alloc, names)?;
-            Ok(Ok(action))
-        }
-        Err(rejection) => Ok(Err(rejection)),
+        None => Ok(stored),
     }
 }
 
@@ -111,17 +106,9 @@ pub fn insert<S: Store>(
     ensures table { durable.new.table ≡ durable.old.table }
     ensures clean { doubt (S.Store.view durable.old.file).is_clean ≤ doubt (S.Store.view durable.new.file).is_clean }
 {
-    if durable.is_failed {
-        return Err(DurableError::Failed);
-    }
     let names = durable.names_to_write_at(alloc, &cookie, now)?;
-    match insert_strictly(&mut durable.store, cookie, url, now)? {
-        Ok(action) => {
-            durable.write(alloc, names)?;
-            Ok(Ok(action))
-        }
-        Err(rejection) => Ok(Err(rejection)),
-    }
+    let stored = insert_strictly(&mut durable.store, cookie, url, now)?;
+    durable.write_if_stored(alloc, names, stored)
 }
 
 // Returns the domain, path and name of the cookie of a header value, if it is one, and checks whether
@@ -136,13 +123,30 @@ fn names_in_header<S: Store>(
     ensures key { IfOk result (λ found. IfSome found (λ names. (cookie : Row)
         × (draft_cookie text.now url.now (moment_of now) ≡ Ok cookie) × (key_in names ≡ key_of cookie))) }
     ensures none { result ≡ Ok None → (error : CookieError) × (draft_cookie text.now url.now (moment_of now) ≡ Err error) }
-    ensures errors { IfErr result (λ e.
-        ((e ≡ DurableError.Unstorable) × IsTrue (passes (is_unstorable_at (moment_of now)) (result_ok (draft_cookie text.now url.now (moment_of now)))))
-        ⊎ (((e ≡ DurableError.Full) × IsTrue (is_some (result_ok (draft_cookie text.now url.now (moment_of now)))) × (durable.now.next ≡ greatest_rowid))
-        ⊎ (e ≡ DurableError.OutOfMemory))) }
+    ensures reason { IfErr result (λ e. IsReasonFor e durable.now (is_unstorable_at (moment_of now)) (result_ok (draft_cookie text.now url.now (moment_of now)))) }
+    ensures early { IfErr result (λ e. ¬ IsNotWritten e) }
 {
-    match parse_draft(alloc, text, url, now)? {
-        Ok(cookie) => Ok(Some(durable.names_to_write_at(alloc, &cookie, now)?)),
+    let created = parse_draft(alloc, text, url, now)?;
+    names_if_created(durable, alloc, &created, now)
+}
+
+// The same for what was parsed of the header value.
+fn names_if_created<S: Store>(
+    durable: &DurableStore<S>,
+    alloc: Global,
+    created: &CookieResult<'static>,
+    now: DateTime,
+) -> Result<Option<Names>, DurableError>
+    ensures key { IfOk result (λ found. IfSome found (λ names. (cookie : Row) × (created.now ≡ Ok cookie) × (key_in names ≡ key_of cookie))) }
+    ensures none { result ≡ Ok None → (error : CookieError) × (created.now ≡ Err error) }
+    ensures reason { IfErr result (λ e. IsReasonFor e durable.now (is_unstorable_at (moment_of now)) (result_ok created.now)) }
+    ensures early { IfErr result (λ e. ¬ IsNotWritten e) }
+{
+    match created {
+        Ok(cookie) => {
+            let names = durable.names_to_write_at(alloc, cookie, now)?;
+            Ok(Some(names))
+        }
         Err(_) => Ok(None),
     }
 }

@@ -5,5 +5,5 @@ pub mod HasRunLines
 pub mod Limits
 pub mod OtherWords
 pub mod Progress
-pub mod StyledTexts
 pub mod WholeLines
+pub mod WrittenRest

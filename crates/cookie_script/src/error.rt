@@ -107,7 +107,6 @@ impl fmt::Display for ConvertFault {
 
     ghost styled_output = { λ fault _. Some (convert_error_text fault) };
 
-    #[tactic(auto, using(crate::proofs::StyledTexts::styled_two))]
     fn fmt<W: fmt::Write>(&self, f: &mut fmt::Formatter<W>) -> fmt::Result {
         match self {
             ConvertFault::Read => f.write_str("read failed"),
@@ -220,7 +219,6 @@ impl fmt::Display for MainFault {
 
     ghost styled_output = { λ fault _. Some (main_error_text fault) };
 
-    #[tactic(auto, using(crate::proofs::StyledTexts::styled_two))]
     fn fmt<W: fmt::Write>(&self, f: &mut fmt::Formatter<W>) -> fmt::Result {
         match self {
             MainFault::BadArguments => f.write_str("cookie_jar: bad arguments"),

@@ -5,6 +5,7 @@ use Rattle.cookies.specs.declared.error.Failure.TheVariants as Fault
 
 -- 2 for wrong usage, otherwise 1
 abbrev pub status_of : Failure → ℕ
+status_of (Fault.Arguments message) = 2
 status_of (Fault.Usage usage) = 2
 status_of (Fault.File name error) = 1
 status_of (Fault.Rejected error) = 1

@@ -161,12 +161,17 @@ raw_of fields = record (pair fields.name fields.value) {
   same_site = fields.same_site;
 }
 
--- the cookie of an item, whose expiry has this name, if its name and value read back from a header value, its domain
--- is a host, and its path begins with `/`
-unfoldable pub cookie_in : List ℕ → Data → Option Row
-cookie_in expiry item = do
-  fields ← fields_in expiry item
+-- the cookie of the fields, if its name and value read back from a header value, its domain is a host, and its path
+-- begins with `/`
+unfoldable pub cookie_of : ItemFields → Option Row
+cookie_of fields = do
   raw ← if is_plain (raw_of fields) then Some (raw_of fields) else None
   domain ← domain_of fields.domain fields.is_host_only
   path ← absolute_path fields.path
   Some (record { raw = raw; domain = domain; path = path; expires = fields.expires })
+
+-- the cookie of an item, whose expiry has this name
+unfoldable pub cookie_in : List ℕ → Data → Option Row
+cookie_in expiry item = do
+  fields ← fields_in expiry item
+  cookie_of fields

@@ -15,14 +15,18 @@ use url::Url;
 
 /// Parses the words of the command line, the program's name first.
 pub fn parse<'a>(alloc: Global, words: &'a [String]) -> Result<Request<'a>, Failure<'a>> {
-    let matches = match command_line(alloc)?.try_get_matches_from(words) {
-        Ok(matches) => matches,
-        Err(error) => return unmatched(alloc, &error),
-    };
-    let Some((verb, matches)) = matches.subcommand() else {
-        return Err(Failure::from(Usage::Missing("COMMAND")));
-    };
-    request(alloc, verb, matches)
+    match command_line(alloc)?.try_get_matches_from(words) {
+        Ok(matches) => matched(alloc, &matches),
+        Err(error) => unmatched(alloc, &error),
+    }
+}
+
+// Returns the request of the words.
+fn matched<'a>(alloc: Global, matches: &ArgMatches<'a>) -> Result<Request<'a>, Failure<'a>> {
+    match matches.subcommand() {
+        Some((verb, matches)) => request(alloc, verb, matches),
+        None => Err(Failure::from(Usage::Missing("COMMAND"))),
+    }
 }
 
 // Returns the request of a command's name and arguments.
@@ -61,7 +65,7 @@ fn unmatched<'a>(alloc: Global, error: &clap::Error) -> Result<Request<'a>, Fail
             now: None,
         }),
         ErrorKind::OutOfMemory => Err(Failure::Memory),
-        _ => Err(Failure::from(Usage::Arguments(one_line(alloc, text.as_str())?))),
+        _ => Err(Failure::Arguments(one_line(alloc, text.as_str())?)),
     }
 }
 
@@ -70,12 +74,17 @@ fn one_line(alloc: Global, text: &str) -> Result<String, AllocError> {
     let text = text.strip_prefix("error: ").unwrap_or(text);
     let mut line = String::new(alloc);
     for part in text.lines().take_while(|part| !part.is_empty()) {
-        if !line.is_empty() {
-            line.push(' ')?;
-        }
-        line.push_str(part.trim_start())?;
+        push_part(&mut line, part.trim_start())?;
     }
     Ok(line)
+}
+
+// Appends a part of a line, after a space unless it is the first.
+fn push_part(line: &mut String, part: &str) -> Result<(), AllocError> {
+    if !line.is_empty() {
+        line.push(' ')?;
+    }
+    line.push_str(part)
 }
 
 fn show<'a>(matches: &ArgMatches<'a>) -> Result<Command<'a>, Failure<'a>> {
@@ -87,60 +96,71 @@ fn show<'a>(matches: &ArgMatches<'a>) -> Result<Command<'a>, Failure<'a>> {
 
 fn header<'a>(alloc: Global, matches: &ArgMatches<'a>) -> Result<Command<'a>, Failure<'a>> {
     let url = url(alloc, matches)?;
-    let file = input_file(matches, "FILE", "format", "--format")?;
+    let (file, suffixes) = input_and_suffixes(matches)?;
     Ok(Command::Header {
         url,
         file,
-        suffixes: suffixes(matches, Some(file.name))?,
+        suffixes,
         context: context(matches, matches.get_flag("cross-site")),
     })
 }
 
 fn explain<'a>(alloc: Global, matches: &ArgMatches<'a>) -> Result<Command<'a>, Failure<'a>> {
-    let url = url(alloc, matches)?;
-    let context = context(matches, matches.get_flag("cross-site"));
-    if let Some(value) = matches.get_str("set-cookie") {
-        return Ok(Command::ExplainValue {
-            url,
-            value,
-            suffixes: suffixes(matches, None)?,
-            context,
-        });
+    match matches.get_str("set-cookie") {
+        Some(value) => explain_value(alloc, matches, value),
+        None => explain_file(alloc, matches),
     }
-    let file = input_file(matches, "FILE", "format", "--format")?;
+}
+
+fn explain_value<'a>(
+    alloc: Global,
+    matches: &ArgMatches<'a>,
+    value: &'a str,
+) -> Result<Command<'a>, Failure<'a>> {
+    let url = url(alloc, matches)?;
+    let suffixes = suffixes(matches)?;
+    Ok(Command::ExplainValue {
+        url,
+        value,
+        suffixes,
+        context: context(matches, matches.get_flag("cross-site")),
+    })
+}
+
+fn explain_file<'a>(alloc: Global, matches: &ArgMatches<'a>) -> Result<Command<'a>, Failure<'a>> {
+    let url = url(alloc, matches)?;
+    let (file, suffixes) = input_and_suffixes(matches)?;
     Ok(Command::Explain {
         url,
         file,
-        suffixes: suffixes(matches, Some(file.name))?,
-        context,
+        suffixes,
+        context: context(matches, matches.get_flag("cross-site")),
     })
 }
 
 fn set<'a>(alloc: Global, matches: &ArgMatches<'a>) -> Result<Command<'a>, Failure<'a>> {
-    let name = word(matches, "FILE")?;
+    let value = word(matches, "SET-COOKIE")?;
+    let url = url(alloc, matches)?;
+    let (file, suffixes) = output_and_suffixes(matches)?;
     Ok(Command::Set {
-        url: url(alloc, matches)?,
-        value: word(matches, "SET-COOKIE")?,
-        file: output_file(matches, name, "format", "--format")?,
-        suffixes: suffixes(matches, Some(name))?,
+        url,
+        value,
+        file,
+        suffixes,
         context: context(matches, false),
     })
 }
 
 fn remove<'a>(matches: &ArgMatches<'a>) -> Result<Command<'a>, Failure<'a>> {
     Ok(Command::Remove {
-        file: output_file(matches, word(matches, "FILE")?, "format", "--format")?,
-        key: Key {
-            domain: word(matches, "DOMAIN")?,
-            path: word(matches, "PATH")?,
-            name: word(matches, "NAME")?,
-        },
+        file: output_file(matches, "FILE", "format", "--format")?,
+        key: key(matches)?,
     })
 }
 
 fn purge<'a>(matches: &ArgMatches<'a>) -> Result<Command<'a>, Failure<'a>> {
     Ok(Command::Purge {
-        file: output_file(matches, word(matches, "FILE")?, "format", "--format")?,
+        file: output_file(matches, "FILE", "format", "--format")?,
         purge: Purge::of_options(
             matches.get_flag("expired"),
             matches.get_flag("session"),
@@ -152,8 +172,16 @@ fn purge<'a>(matches: &ArgMatches<'a>) -> Result<Command<'a>, Failure<'a>> {
 fn convert<'a>(matches: &ArgMatches<'a>) -> Result<Command<'a>, Failure<'a>> {
     Ok(Command::Convert {
         input: input_file(matches, "IN", "from", "--from")?,
-        output: output_file(matches, word(matches, "OUT")?, "to", "--to")?,
+        output: output_file(matches, "OUT", "to", "--to")?,
         skips_unrepresentable: matches.get_flag("skip-unrepresentable"),
+    })
+}
+
+fn key<'a>(matches: &ArgMatches<'a>) -> Result<Key<'a>, Usage<'a>> {
+    Ok(Key {
+        domain: word(matches, "DOMAIN")?,
+        path: word(matches, "PATH")?,
+        name: word(matches, "NAME")?,
     })
 }
 
@@ -162,13 +190,31 @@ fn word<'a>(matches: &ArgMatches<'a>, id: &'static str) -> Result<&'a str, Usage
     matches.get_str(id).ok_or(Usage::Missing(id))
 }
 
-// Returns the file of a name, in the format of an option or of the name's suffix.
+// Returns the file of the cookies, which is only read, and the file of a public suffix list.
+fn input_and_suffixes<'a>(
+    matches: &ArgMatches<'a>,
+) -> Result<(InputFile<'a>, Option<SuffixFile<'a>>), Usage<'a>> {
+    let file = input_file(matches, "FILE", "format", "--format")?;
+    Ok((file, suffixes(matches)?))
+}
+
+// Returns the file of the cookies, which is written, and the file of a public suffix list.
+fn output_and_suffixes<'a>(
+    matches: &ArgMatches<'a>,
+) -> Result<(OutputFile<'a>, Option<SuffixFile<'a>>), Usage<'a>> {
+    let file = output_file(matches, "FILE", "format", "--format")?;
+    Ok((file, suffixes(matches)?))
+}
+
+// Returns the file of an argument that is written, in the format of an option or of the file's
+// suffix.
 fn output_file<'a>(
     matches: &ArgMatches<'a>,
-    name: &'a str,
+    id: &'static str,
     option_id: &str,
     option: &'static str,
 ) -> Result<OutputFile<'a>, Usage<'a>> {
+    let name = word(matches, id)?;
     let format = match matches.get_str(option_id) {
         Some(format) => OutputFormat::of_name(format),
         None => OutputFormat::of_file_name(name),
@@ -205,14 +251,11 @@ fn input_file<'a>(
     }
 }
 
-// Returns the file of a public suffix list. Standard input can't be both this and the file of the
-// cookies, if there is one.
-fn suffixes<'a>(
-    matches: &ArgMatches<'a>,
-    file_name: Option<&'a str>,
-) -> Result<Option<SuffixFile<'a>>, Usage<'a>> {
+// Returns the file of a public suffix list, if there is one. Standard input can't be both this and
+// the file of the cookies.
+fn suffixes<'a>(matches: &ArgMatches<'a>) -> Result<Option<SuffixFile<'a>>, Usage<'a>> {
     match matches.get_str("suffixes") {
-        Some("-") if file_name == Some("-") => Err(Usage::InputTwice),
+        Some("-") if matches.get_str("FILE") == Some("-") => Err(Usage::InputTwice),
         Some(name) => Ok(Some(SuffixFile {
             name,
             only_listed: matches.get_flag("only-listed"),
@@ -242,12 +285,12 @@ fn url<'a>(alloc: Global, matches: &ArgMatches<'a>) -> Result<Url, Failure<'a>> 
     }
 }
 
-fn time<'a>(matches: &ArgMatches<'a>) -> Result<Option<DateTime>, Usage<'a>> {
+fn time<'a>(matches: &ArgMatches<'a>) -> Result<Option<DateTime>, Failure<'a>> {
     let Some(text) = matches.get_str("now") else {
         return Ok(None);
     };
     match read_moment(text) {
         Some(moment) => Ok(Some(moment)),
-        None => Err(Usage::BadTime(text)),
+        None => Err(Failure::from(Usage::BadTime(text))),
     }
 }

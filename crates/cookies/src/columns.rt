@@ -51,16 +51,16 @@ fn push_line(
 ) -> Result<(), AllocError> {
     let mut gap = 0;
     for (cell, width) in cells.iter().zip(widths) {
-        push_spaces(out, gap)?;
-        out.push_str(cell)?;
+        push_cell(out, gap, cell)?;
         gap = width.saturating_sub(cell.width()).saturating_add(2);
     }
     out.push('\n')
 }
 
-fn push_spaces(out: &mut String, count: usize) -> Result<(), AllocError> {
-    for _ in 0..count {
+// Appends a cell after a gap of spaces.
+fn push_cell(out: &mut String, gap: usize, cell: &str) -> Result<(), AllocError> {
+    for _ in 0..gap {
         out.push(' ')?;
     }
-    Ok(())
+    out.push_str(cell)
 }

@@ -188,16 +188,21 @@ static COMMANDS: [(&str, &str, &[Argument]); 7] = [
 
 /// Returns the command line of the program.
 pub fn command_line<'a>(alloc: Global) -> Result<Command<'a>, AllocError> {
-    let mut program = Command::new(alloc, NAME)
-        .bin_name(NAME)?
-        .version(VERSION)
-        .about("Shows, edits and converts files of cookies")
-        .after_help(AFTER_HELP)
-        .subcommand_required(true);
+    let mut program = program(alloc)?;
     for (name, about, arguments) in &COMMANDS {
         program = program.subcommand(command(alloc, name, about, arguments)?)?;
     }
     Ok(program)
+}
+
+// Returns the program without its commands.
+fn program<'a>(alloc: Global) -> Result<Command<'a>, AllocError> {
+    let program = Command::new(alloc, NAME)
+        .version(VERSION)
+        .about("Shows, edits and converts files of cookies")
+        .after_help(AFTER_HELP)
+        .subcommand_required(true);
+    program.bin_name(NAME)
 }
 
 // Returns the command with these arguments.

@@ -18,12 +18,10 @@ use std::alloc::{AllocError, AllocFailed, Global};
 use std::{fmt, io};
 
 /// Why the command line is wrong.
-#[derive(Debug, Drop)]
+#[derive(Clone, Copy, Debug, PartialEq, Eq)]
 pub enum Usage<'a> {
     /// The arguments cannot be read, as one that is not UTF-8.
     Unreadable,
-    /// The arguments fit no command: the message for them.
-    Arguments(String),
     /// The argument with this name is missing.
     Missing(&'static str),
     /// The suffix of this file name stands for no format, which this option can name.
@@ -40,9 +38,8 @@ pub enum Usage<'a> {
 
 impl fmt::Display for Usage<'_> {
     fn fmt<W: fmt::Write>(&self, f: &mut fmt::Formatter<W>) -> fmt::Result {
-        match self {
+        match *self {
             Usage::Unreadable => f.write_str("an argument is not UTF-8"),
-            Usage::Arguments(message) => f.write_str(message.as_str()),
             Usage::Missing(name) => write!(f, "{name}: missing"),
             Usage::UnknownFormat(name, option) => {
                 write!(f, "{name}: unknown format, name one by {option}")
@@ -56,7 +53,7 @@ impl fmt::Display for Usage<'_> {
 }
 
 /// What is wrong with a file.
-#[derive(Debug, Drop)]
+#[derive(Drop)]
 pub enum FileError {
     /// It cannot be read or written.
     System(io::Error),
@@ -242,9 +239,11 @@ impl From<StoreError> for FileError {
 }
 
 /// Why a command fails.
-#[derive(Debug, Drop)]
+#[derive(Drop)]
 pub enum Failure<'a> {
-    /// The command line is wrong.
+    /// The arguments fit no command: the message for them.
+    Arguments(String),
+    /// The command line is wrong otherwise.
     Usage(Usage<'a>),
     /// Something is wrong with the file of this name.
     File(&'a str, FileError),
@@ -274,7 +273,7 @@ impl<'a> Failure<'a> {
         ensures { result ≡ status_of self.now }
     {
         match self {
-            Failure::Usage(_) => 2,
+            Failure::Arguments(_) | Failure::Usage(_) => 2,
             _ => 1,
         }
     }
@@ -301,7 +300,8 @@ impl<'a> Failure<'a> {
 impl fmt::Display for Failure<'_> {
     fn fmt<W: fmt::Write>(&self, f: &mut fmt::Formatter<W>) -> fmt::Result {
         match self {
-            Failure::Usage(usage) => write!(f, "cookies: {usage}; try 'cookies --help'"),
+            Failure::Arguments(message) => write_usage(f, message),
+            Failure::Usage(usage) => write_usage(f, usage),
             Failure::File(name, error) => write!(f, "cookies: {name}: {error}"),
             Failure::Rejected(error) => write!(f, "cookies: cookie rejected: {error}"),
             Failure::Random(error) => write!(f, "cookies: random bytes: {error}"),
@@ -309,6 +309,11 @@ impl fmt::Display for Failure<'_> {
             Failure::Memory => f.write_str("cookies: out of memory"),
         }
     }
+}
+
+// Writes why the command line is wrong, and how to get help.
+fn write_usage<W: fmt::Write>(f: &mut fmt::Formatter<W>, usage: &impl fmt::Display) -> fmt::Result {
+    write!(f, "cookies: {usage}; try 'cookies --help'")
 }
 
 impl<'a> From<Usage<'a>> for Failure<'a> {

@@ -160,11 +160,15 @@ pub fn rejection(
 ) -> Result<String, AllocError> {
     let mut text = format!(in alloc; "rejected: {error}\n")?;
     if let Ok(raw) = RawCookie::parse_as(value, syntax) {
-        text.push_str("parsed as: ")?;
-        text.push_str(escaped(alloc, as_parsed(alloc, raw)?.as_str())?.as_str())?;
-        text.push('\n')?;
+        push_parsed(alloc, &mut text, as_parsed(alloc, raw)?.as_str())?;
     }
     Ok(text)
+}
+
+// Appends a line with the cookie as parsed.
+fn push_parsed(alloc: Global, text: &mut String, parsed: &str) -> Result<(), AllocError> {
+    let parsed = escaped(alloc, parsed)?;
+    writeln!(text, "parsed as: {parsed}")
 }
 
 // Returns the cookie as a header value, with Secure only if that is set.

@@ -31,9 +31,19 @@ pub fn read_exported(
     now: DateTime,
 ) -> Result<Exported, FileError> {
     let json = read_json(alloc, contents)?;
-    let Some(items) = list_of(export, &json) else {
-        return Err(FileError::NotExported(export));
-    };
+    match list_of(export, &json) {
+        Some(items) => read_list(alloc, export, items, now),
+        None => Err(FileError::NotExported(export)),
+    }
+}
+
+// Reads the list of an export.
+fn read_list(
+    alloc: StoreAlloc,
+    export: Export,
+    items: &[Value],
+    now: DateTime,
+) -> Result<Exported, FileError> {
     let Items {
         cookies,
         malformed,
@@ -54,24 +64,38 @@ struct Items {
     partitioned: usize,
 }
 
-// Reads the items of an export.
+impl Items {
+    // Adds the item of this number, whose expiry has this name.
+    fn add(
+        &mut self,
+        alloc: Global,
+        number: usize,
+        item: &Value,
+        expiry: &str,
+    ) -> Result<(), AllocError> {
+        match read_cookie(alloc, item, expiry)? {
+            Some(_) if is_partitioned(item) => {
+                self.partitioned = self.partitioned.saturating_add(1);
+            }
+            Some(cookie) => self.cookies.push(Ok(cookie))?,
+            None => self.malformed.push(number)?,
+        }
+        Ok(())
+    }
+}
+
+// Reads the items of a list.
 fn read_items(alloc: Global, export: Export, items: &[Value]) -> Result<Items, AllocError> {
     let expiry = expiry_name(export);
-    let mut cookies = Vec::new(alloc);
-    let mut malformed = Vec::new(alloc);
-    let mut partitioned: usize = 0;
+    let mut read = Items {
+        cookies: Vec::new(alloc),
+        malformed: Vec::new(alloc),
+        partitioned: 0,
+    };
     for (index, item) in items.iter().enumerate() {
-        match read_cookie(alloc, item, expiry)? {
-            Some(_) if is_partitioned(item) => partitioned = partitioned.saturating_add(1),
-            Some(cookie) => cookies.push(Ok(cookie))?,
-            None => malformed.push(index.saturating_add(1))?,
-        }
+        read.add(alloc, index.saturating_add(1), item, expiry)?;
     }
-    Ok(Items {
-        cookies,
-        malformed,
-        partitioned,
-    })
+    Ok(read)
 }
 
 // Reads a value in JSON.

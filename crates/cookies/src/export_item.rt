@@ -3,7 +3,7 @@ ghost use Rattle.std.specs.Prelude.{◌≡◌, bytes_eq, IfOk, option_map};
 ghost use Rattle.serde_json.specs.View.{view};
 ghost use Rattle.cookie_parts.specs.Hosts.{host_of, passes};
 ghost use Rattle.cookie_parts.specs.Views.{domain_value, expiry_value};
-ghost use Rattle.cookies.specs.ExportItems.{cookie_in, domain_of, expiry_at, expiry_in, fields_in, flag_in, has_key, is_host, is_partitioned, member_in, path_in, raw_of, same_site_in, same_site_of, string_in, ItemFields};
+ghost use Rattle.cookies.specs.ExportItems.{cookie_in, cookie_of, domain_of, expiry_at, expiry_in, fields_in, flag_in, has_key, is_host, is_partitioned, member_in, path_in, raw_of, same_site_in, same_site_of, string_in, ItemFields};
 
 use cookie_inputs::parse_unambiguous;
 use cookie_store::raw::{RawCookieBuilder, SameSite};
@@ -75,20 +75,29 @@ pub fn read_cookie(
 ) -> Result<Option<Cookie<'static>>, AllocError>
     ensures { IfOk result (λ cookie. cookie ≡ cookie_in expiry.now (view item.now)) }
 {
-    let Some(fields) = fields_in(item, expiry) else {
-        return Ok(None);
-    };
-    let raw = raw_cookie(alloc, &fields)?;
+    match fields_in(item, expiry) {
+        Some(fields) => cookie_of(alloc, &fields),
+        None => Ok(None),
+    }
+}
+
+// Returns the cookie of the fields, or `None` if its name or its value does not read back from a header
+// value, if its domain is not a host, or if its path does not begin with `/`.
+#[tactic(auto, unfolding(crate::specs::ExportItems::cookie_of))]
+fn cookie_of(alloc: Global, fields: &Fields<'_>) -> Result<Option<Cookie<'static>>, AllocError>
+    ensures { IfOk result (λ cookie. cookie ≡ cookie_of fields.now) }
+{
+    let raw = raw_cookie(alloc, fields)?;
     if !raw.is_plain() {
         return Ok(None);
     }
     let Some(domain) = domain_of(alloc, fields.domain, fields.is_host_only)? else {
         return Ok(None);
     };
-    match CookiePath::parse(alloc, fields.path)? {
-        Some(path) => Ok(Some(Cookie::new(raw, domain, path, fields.expires))),
-        None => Ok(None),
-    }
+    let Some(path) = CookiePath::parse(alloc, fields.path)? else {
+        return Ok(None);
+    };
+    Ok(Some(Cookie::new(raw, domain, path, fields.expires)))
 }
 
 // Returns the domain without one dot before it, or `None` if that is not a host.

@@ -96,18 +96,25 @@ fn descriptor_of(rt: &HostRuntime, name: &str) -> io::Result<Option<Descriptor>>
     }
     let mut path = PathBuf::from_str(rt.alloc(), name)?;
     for _ in 0..LINKS {
-        let at = in_real_folder(rt, path)?;
-        if let Some(found) = descriptor_at(rt, at.as_path())? {
-            return Ok(Some(found));
+        path = in_real_folder(rt, path)?;
+        let found = descriptor_at(rt, path.as_path())?;
+        if found.is_some() || !follow(rt, &mut path)? {
+            return Ok(found);
         }
-        let Some(target) = unless_memory(fs::read_link(rt, at.as_str()))? else {
-            return Ok(None);
-        };
-        path = at;
-        path.pop();
-        path.push(target)?;
     }
     Ok(None)
+}
+
+// Replaces a path by the one that its symbolic link leads to. Returns whether it is a link.
+fn follow(rt: &HostRuntime, path: &mut PathBuf) -> io::Result<bool> {
+    match unless_memory(fs::read_link(rt, path.as_str()))? {
+        Some(target) => {
+            path.pop();
+            path.push(target)?;
+            Ok(true)
+        }
+        None => Ok(false),
+    }
 }
 
 // Returns the open descriptor that a path stands for, whose folder has no symbolic links.
@@ -174,35 +181,47 @@ fn append(rt: &HostRuntime, name: &str, contents: &[u8]) -> io::Result<()> {
 // Writes a new file in the same folder, and renames it. A mount point is written in place instead.
 fn replace(rt: &HostRuntime, name: &str, mode: u32, contents: &[u8]) -> io::Result<()> {
     let (temporary, file) = create_beside(rt, name, mode)?;
-    let temporary = temporary.as_str();
-    if let Err(error) = fill(file, contents) {
-        let _ = fs::remove_file(rt, temporary);
-        return Err(error);
+    match fill(file, contents) {
+        Ok(()) => move_to(rt, temporary.as_str(), name, contents),
+        Err(error) => give_up(rt, temporary.as_str(), error),
     }
+}
+
+// Renames `temporary`, which has these contents, or writes a mount point in place.
+fn move_to(rt: &HostRuntime, temporary: &str, name: &str, contents: &[u8]) -> io::Result<()> {
     match fs::rename(rt, temporary, name) {
         Err(error) if is_of_mount_point(&error) => { write_in_place(rt, temporary, name, contents) }
-        Err(error) => {
-            let _ = fs::remove_file(rt, temporary);
-            Err(error)
-        }
+        Err(error) => give_up(rt, temporary, error),
         Ok(()) => Ok(()),
     }
+}
+
+// Removes `temporary`, and returns the error.
+fn give_up(rt: &HostRuntime, temporary: &str, error: io::Error) -> io::Result<()> {
+    let _ = fs::remove_file(rt, temporary);
+    Err(error)
 }
 
 // Creates a file in the folder of another. Returns its name too.
 fn create_beside(rt: &HostRuntime, name: &str, mode: u32) -> io::Result<(PathBuf, File)> {
     let mut options = OpenOptions::new();
     options.write(true).create_new(true).mode(mode);
-    let id = process::id(rt.process());
     for number in 0..LEFTOVERS {
-        let short = format!(in rt.alloc(); ".cookies-{id}-{number}.tmp")?;
-        let temporary = Path::new(name).with_file_name(rt.alloc(), short.as_str())?;
+        let temporary = temporary_name(rt, name, number)?;
         match options.open(rt, temporary.as_str()) {
+            Ok(file) => return Ok((temporary, file)),
             Err(error) if error.kind() == io::ErrorKind::AlreadyExists => {}
-            opened => return Ok((temporary, opened?)),
+            Err(error) => return Err(error),
         }
     }
     Err(io::Error::from(io::ErrorKind::AlreadyExists))
+}
+
+// Returns the name of a temporary file in the folder of another.
+fn temporary_name(rt: &HostRuntime, name: &str, number: usize) -> io::Result<PathBuf> {
+    let id = process::id(rt.process());
+    let short = format!(in rt.alloc(); ".cookies-{id}-{number}.tmp")?;
+    Ok(Path::new(name).with_file_name(rt.alloc(), short.as_str())?)
 }
 
 // Writes to a file, and waits until the disk has it.
@@ -232,9 +251,6 @@ fn write_in_place(
             fill(file, contents)?;
             fs::remove_file(rt, temporary)
         }
-        Err(error) => {
-            let _ = fs::remove_file(rt, temporary);
-            Err(error)
-        }
+        Err(error) => give_up(rt, temporary, error),
     }
 }

@@ -1,11 +1,12 @@
 //! Runs a command.
 use crate::arguments::parse;
+use crate::changing::Removal;
 use crate::error::{Failure, FileError};
 use crate::explanation::{RequestRules, rejection};
 use crate::format::FileFormat;
 use crate::options::{Command, InputFile, Request, SuffixFile};
 use crate::request::{has_control, is_for_suffix, request_cookies};
-use crate::runner::Runner;
+use crate::runner::{HeaderValue, Runner};
 use crate::storage::written_cookies;
 use crate::table::table;
 use cookie_store::psl::List;
@@ -45,16 +46,16 @@ impl<'r> Runner<'r> {
                 value,
                 suffixes,
                 context,
-            } => self.explain_value(&url, value, suffixes, context),
+            } => self.explain_value(HeaderValue::new(value, &url, context), suffixes),
             Command::Set {
                 url,
                 value,
                 file,
                 suffixes,
                 context,
-            } => self.set(&url, value, file, suffixes, context),
-            Command::Remove { file, key } => self.remove(file, key),
-            Command::Purge { file, purge } => self.purge(file, purge),
+            } => self.set(HeaderValue::new(value, &url, context), file, suffixes),
+            Command::Remove { file, key } => self.remove(file, Removal::One(key)),
+            Command::Purge { file, purge } => self.remove(file, Removal::Purge(purge)),
             Command::Convert {
                 input,
                 output,
@@ -89,18 +90,30 @@ impl<'r> Runner<'r> {
     ) -> Result<(), Failure<'a>> {
         let list = self.list(suffixes)?;
         let store = self.load(file)?;
-        let mut cookies = request_cookies(&store, url, context, self.now)?;
-        if let Some(list) = &list {
+        self.print_header(file.name, &store, list.as_ref(), url, context)
+    }
+
+    // Prints the header value of a request for cookies of a file.
+    fn print_header<'a>(
+        &self,
+        name: &'a str,
+        store: &CookieStore,
+        list: Option<&List>,
+        url: &Url,
+        context: Option<Context>,
+    ) -> Result<(), Failure<'a>> {
+        let mut cookies = request_cookies(store, url, context, self.now)?;
+        if let Some(list) = list {
             cookies.retain(|cookie| !is_for_suffix(cookie, list));
         }
         if context.is_some() {
             cookies.retain(|cookie| !strict::breaks_prefix(cookie));
         }
-        self.print_header(file.name, &cookies)
+        self.print_cookies(name, &cookies)
     }
 
-    // Prints the header value for cookies of a file, unless there are none.
-    fn print_header<'a>(
+    // Prints the header value of these cookies, unless there are none.
+    fn print_cookies<'a>(
         &self,
         name: &'a str,
         cookies: &[&Cookie<'static>],
@@ -126,6 +139,18 @@ impl<'r> Runner<'r> {
         let list = self.list(suffixes)?;
         let list = list.unwrap_or(List::new(self.alloc.alloc));
         let store = self.load(file)?;
+        self.print_explanation(file.name, &store, &list, url, context)
+    }
+
+    // Prints which cookies of a file a request has, and why it does not have the others.
+    fn print_explanation<'a>(
+        &self,
+        name: &'a str,
+        store: &CookieStore,
+        suffixes: &List,
+        url: &Url,
+        context: Option<Context>,
+    ) -> Result<(), Failure<'a>> {
         // browsers send Secure cookies to names below localhost, over http too
         let url = if context.is_some() {
             strict::as_secure(url)?
@@ -135,10 +160,10 @@ impl<'r> Runner<'r> {
         let rules = RequestRules {
             url: &url,
             time: self.now,
-            suffixes: &list,
+            suffixes,
             context,
         };
-        self.print_table(file.name, rules.table(&store))
+        self.print_table(name, rules.table(store))
     }
 
     // Prints a table of the cookies of a file.
@@ -155,26 +180,27 @@ impl<'r> Runner<'r> {
 
     fn explain_value<'a>(
         &self,
-        url: &Url,
-        value: &str,
+        header: HeaderValue<'_>,
         suffixes: Option<SuffixFile<'a>>,
-        context: Option<Context>,
     ) -> Result<(), Failure<'a>> {
-        let mut store = self.new_store();
-        if let Some(list) = self.list(suffixes)? {
-            store.set_suffix_list(list);
-        }
-        let text = match self.insert(&mut store, value, url, context) {
-            Ok(()) => stored(&store, self.now)?,
-            Err(Failure::Rejected(error)) => rejection(
-                self.alloc.alloc,
-                value,
-                syntax(context),
-                error,
-            )?,
+        let list = self.list(suffixes)?;
+        let text = self.insertion(&mut self.store_under(list), header)?;
+        self.write("-", text.as_bytes())
+    }
+
+    // Inserts the cookie of a header value. Returns what is stored, or why it is rejected.
+    fn insertion<'a>(
+        &self,
+        store: &mut CookieStore,
+        header: HeaderValue<'_>,
+    ) -> Result<String, Failure<'a>> {
+        let error = match self.insert(store, header) {
+            Ok(()) => return stored(store, self.now),
+            Err(Failure::Rejected(error)) => error,
             Err(failure) => return Err(failure),
         };
-        self.write("-", text.as_bytes())
+        let syntax = syntax(header.context);
+        Ok(rejection(self.alloc.alloc, header.value, syntax, error)?)
     }
 }
 

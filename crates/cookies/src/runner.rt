@@ -17,6 +17,27 @@ use jiff::tz::Offset;
 use std::hash::RandomState;
 use url::Url;
 
+/// A `Set-Cookie` header value.
+#[derive(Clone, Copy)]
+pub struct HeaderValue<'v> {
+    pub value: &'v str,
+    /// The URL that it was received from.
+    pub url: &'v Url,
+    /// Where the request came from, if the rules of browsers hold.
+    pub context: Option<Context>,
+}
+
+impl<'v> HeaderValue<'v> {
+    /// Returns the header value of a response.
+    pub fn new(value: &'v str, url: &'v Url, context: Option<Context>) -> HeaderValue<'v> {
+        HeaderValue {
+            value,
+            url,
+            context,
+        }
+    }
+}
+
 /// Runs commands at a time.
 #[derive(Drop)]
 pub struct Runner<'r> {
@@ -45,15 +66,23 @@ impl<'r> Runner<'r> {
         CookieStore::with_hash_key(alloc, hash_key)
     }
 
+    /// Returns a store without cookies that has this public suffix list, if there is one.
+    pub fn store_under(&self, list: Option<List>) -> CookieStore {
+        let store = self.new_store();
+        match list {
+            Some(list) => store.with_suffix_list(list),
+            None => store,
+        }
+    }
+
     /// Inserts the cookie of a header value.
     pub fn insert<'a>(
         &self,
         store: &mut CookieStore,
-        value: &str,
-        url: &Url,
-        context: Option<Context>,
+        header: HeaderValue<'_>,
     ) -> Result<(), Failure<'a>> {
-        match context {
+        let (value, url) = (header.value, header.url);
+        match header.context {
             Some(context) => strict::parse_in_context(store, value, url, context, self.now)?,
             None => store.parse(value, url, self.now)?,
         };
@@ -118,12 +147,21 @@ impl<'r> Runner<'r> {
         file: CookieFile<'a>,
         contents: &[u8],
     ) -> Result<CookieStore, Failure<'a>> {
-        let loaded = read_well_formed(self.alloc, file.format, contents);
-        let loaded = loaded.map_err(|error| Failure::input(file.name, error))?;
-        for line in loaded.malformed.iter() {
-            self.say(input_name(file.name), Note::Malformed(*line))?;
+        match read_well_formed(self.alloc, file.format, contents) {
+            Ok(loaded) => {
+                self.say_malformed(file.name, loaded.malformed.as_slice())?;
+                Ok(loaded.store)
+            }
+            Err(error) => Err(Failure::input(file.name, error)),
         }
-        Ok(loaded.store)
+    }
+
+    // Names the malformed lines, which are left out.
+    fn say_malformed<'a>(&self, name: &'a str, lines: &[usize]) -> Result<(), Failure<'a>> {
+        for line in lines {
+            self.say(input_name(name), Note::Malformed(*line))?;
+        }
+        Ok(())
     }
 
     /// Reads a file.

@@ -10,8 +10,8 @@ pub rows-init : goal.rows-init
 rows-init g c = record {
   quiet = c.in_ok-seek.ensures.quiet;
   live = c.in_ok-seek.ensures.live;
-  loaded = λ clean. begins _ c.args.table _ _ _ _ _ c.new-first.result (ap (λ (r : RowsInOrder). contents_of r None None) c.new.ensures) c.with_hasher.ensures.empty
-      c.new-first.ensures (c.in_ok-seek.ensures.sound clean) (c.in_ok-seek.ensures.ok clean);
+  loaded = λ clean. begins _ c.args.table _ _ _ _ _ c.new.result (ap (λ (r : RowsInOrder). contents_of r None None) c.new-2.ensures) c.with_hasher.ensures.empty
+      c.new.ensures (c.in_ok-seek.ensures.sound clean) (c.in_ok-seek.ensures.ok clean);
 }
 
 pub rows-preserved : goal.rows-preserved

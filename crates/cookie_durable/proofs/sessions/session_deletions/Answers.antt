@@ -9,7 +9,7 @@ rows-init g c = record {
   quiet = c.in_ok-seek.ensures.quiet;
   live = c.in_ok-seek.ensures.live;
   keyed = search rules;
-  listed = λ clean. begins _ c.args.table _ _ _ c.new-first.result c.new-changes.ensures.items c.new-first.ensures
+  listed = λ clean. begins _ c.args.table _ _ _ c.new.result c.new-changes.ensures.items c.new.ensures
       (c.in_ok-seek.ensures.sound clean) (c.in_ok-seek.ensures.ok clean);
 }
 

@@ -1,13 +1,12 @@
 use Rattle.std.proofs.Common.{◌⊎◌, inl, ℕ, List, [], Option, None, Some, IfSome, refl}
 use Rattle.std.specs.Io.KnownBytes.{Appends}
 use Rattle.std.specs.Str.Lines.{lines}
-use Rattle.std.proofs.lemmas.Option.{IfSome_then}
 use Rattle.std.proofs.KnownBytes.{Appends-nil}
-use Rattle.cookie_device.proofs.Sending.{nothing_part, part_of_rest}
+use Rattle.cookie_device.proofs.Sending.{nothing_part}
 use Rattle.cookie_store.specs.Contents.{Contents}
 use Rattle.cookie_script.specs.Progress.{WritesOutputOfFirstLines, AreRead, NextMayAllocate}
 use Rattle.cookie_script.specs.Script.{empty}
-use Rattle.cookie_script.proofs.HasRunLines.{first_appended, first_part}
+use Rattle.cookie_script.proofs.WrittenRest.{failures_counted, part_written, still_writable, whole_written, written_before_failed_read, written_out_of_memory}
 use Rattle.cookie_script.proofs.run.run.Goals as goal
 
 -- what holds for each value holds for an optional one
@@ -29,31 +28,45 @@ pub returns-in_err-out-clause-memory : goal.returns-in_err-out-clause-memory
 returns-in_err-out-clause-memory g c =
     λ failed. none_read (empty c.args.list c.args.limit) (g.R.Source.state c.args.source.now).remaining (g.W.Sink.state c.args.sink.now).contents
 
-pub returns-in_err-flush-in-Err-Memory-clause-part : goal.returns-in_err-flush-in-Err-Memory-clause-part
-returns-in_err-flush-in-Err-Memory-clause-part g c =
-    let memory = c.in-Err-Memory.ensures.memory cc in
-    IfSome_then (g.R.Source.state c.args.source.now).remaining (rw c.in_ok-out.ensures at memory)
-    (λ input first. first_part (empty c.args.list c.args.limit) input _ _ _ _ _ first c.in_err-flush-in-Err-Memory.ensures.part)
+pub write_rest-requires : goal.write_rest-requires
+write_rest-requires g c =
+    let ran = c.run_and_buffer_lines-outcome in
+    still_writable ran.result _ _ _ _ _ ran.ensures.count c.requires.writable
 
-pub returns-in-Err-Memory-clause-part : goal.returns-in-Err-Memory-clause-part
-returns-in-Err-Memory-clause-part g c =
-    let memory = c.in-Err-Memory.ensures.memory cc in
-    IfSome_then (g.R.Source.state c.args.source.now).remaining (rw c.in_ok-out.ensures at memory)
-    (λ input first. first_part (empty c.args.list c.args.limit) input _ _ _ _ _ first c.in_ok-flush-in-Err-Memory.ensures.part)
-
-pub returns-in-Err-Memory-clause-memory : goal.returns-in-Err-Memory-clause-memory
-returns-in-Err-Memory-clause-memory g c =
-    λ failed.
-    let memory = c.in-Err-Memory.ensures.memory cc in
-    IfSome_then (g.R.Source.state c.args.source.now).remaining (rw c.in_ok-out.ensures at memory)
-    (λ input first. first_appended (empty c.args.list c.args.limit) input _ _ _ _ _ first c.in_ok-flush-in-Err-Memory.ensures.whole)
-
-pub returns-in_err-flush-in-Ok-clause-part : goal.returns-in_err-flush-in-Ok-clause-part
-returns-in_err-flush-in-Ok-clause-part g c =
-    IfSome_then (g.R.Source.state c.args.source.now).remaining (rw c.in_ok-out.ensures at c.in-Ok.ensures.whole)
-    (λ input sends. part_of_rest _ _ _ _ _ sends c.in_err-flush-in-Ok.ensures.part)
+pub returns-clause-whole : goal.returns-clause-whole
+returns-clause-whole g c =
+    let ran = c.run_and_buffer_lines-outcome in
+    let sink = g.W.Sink.state in
+    whole_written (empty c.args.list c.args.limit) (g.R.Source.state c.args.source.now).remaining (sink c.args.sink.now).contents (sink ran.new.sink) (sink c.write_rest.new.sink) ran.new.out ran.result c.write_rest.result c.write_rest.ensures
+    (rw (c.in_ok-out.ensures, c.new-jar.ensures) at ran.ensures.whole)
 
 pub returns-clause-part : goal.returns-clause-part
 returns-clause-part g c =
-    IfSome_then (g.R.Source.state c.args.source.now).remaining (rw c.in_ok-out.ensures at c.in-Ok.ensures.whole)
-    (λ input sends. part_of_rest _ _ _ _ _ sends c.in_ok-flush-in-Ok.ensures.part)
+    let ran = c.run_and_buffer_lines-outcome in
+    let sink = g.W.Sink.state in
+    part_written (empty c.args.list c.args.limit) (g.R.Source.state c.args.source.now).remaining (sink c.args.sink.now).contents (sink ran.new.sink) (sink c.write_rest.new.sink) ran.new.out _ ran.result c.write_rest.result c.write_rest.ensures
+    (rw (c.in_ok-out.ensures, c.new-jar.ensures) at ran.ensures.whole)
+    (rw (c.in_ok-out.ensures, c.new-jar.ensures) at ran.ensures.part)
+    (rw (c.in_ok-out.ensures, c.new-jar.ensures) at ran.ensures.memory)
+
+pub returns-clause-read : goal.returns-clause-read
+returns-clause-read g c =
+    let ran = c.run_and_buffer_lines-outcome in
+    let sink = g.W.Sink.state in
+    written_before_failed_read (empty c.args.list c.args.limit) (g.R.Source.state c.args.source.now).remaining (sink c.args.sink.now).contents (sink ran.new.sink) (sink c.write_rest.new.sink) ran.new.out _ ran.result c.write_rest.result c.write_rest.ensures
+    (rw (c.in_ok-out.ensures, c.new-jar.ensures) at ran.ensures.read)
+
+pub returns-clause-memory : goal.returns-clause-memory
+returns-clause-memory g c =
+    let ran = c.run_and_buffer_lines-outcome in
+    let sink = g.W.Sink.state in
+    written_out_of_memory (empty c.args.list c.args.limit) (g.R.Source.state c.args.source.now).remaining (sink c.args.sink.now).contents (sink ran.new.sink) (sink c.write_rest.new.sink) ran.new.out _ ran.result c.write_rest.result c.write_rest.ensures
+    (rw (c.in_ok-out.ensures, c.new-jar.ensures) at ran.ensures.memory)
+
+pub returns-clause-count : goal.returns-clause-count
+returns-clause-count g c =
+    let ran = c.run_and_buffer_lines-outcome in
+    failures_counted ran.result c.write_rest.result (g.W.Sink.state ran.new.sink) (g.W.Sink.state c.write_rest.new.sink) ran.new.out _ _ _ c.write_rest.ensures ran.ensures.count
+
+pub returns-clause-reads : goal.returns-clause-reads
+returns-clause-reads g c = c.run_and_buffer_lines-outcome.ensures.reads

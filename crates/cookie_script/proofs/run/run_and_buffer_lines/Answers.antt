@@ -2,7 +2,6 @@ use Rattle.std.proofs.Common.{◌≡◌, ◌≢◌, ◌∙◌, inl, inr, ℕ, �
 use Rattle.std.proofs.lemmas.Bool.{eqb-true, false≢true}
 use Rattle.std.proofs.lemmas.Option.{IfSome_then}
 use Rattle.cookie_device.specs.LineBuffers.{IsLastLine}
-use Rattle.cookie_script.specs.Script.{empty}
 use Rattle.cookie_script.proofs.HasRunLines.{all_sent, next_line_run, next_part, sent_all}
 use Rattle.cookie_script.proofs.Progress.{begun, are_read, flush_part, flushed, found, line_run, no_line_left, one_line_left, part_so_far, read_ahead}
 use Rattle.cookie_script.specs.Errors.{CountsRunFailure}
@@ -32,7 +31,9 @@ lines-init g c =
     record {
       reads = refl;
       writes = refl;
-      progress = rw (c.new-input.ensures, c.new-jar.ensures) (begun (empty c.args.list c.args.limit) (g.R.Source.state c.args.source.now).remaining (g.W.Sink.state c.args.sink.now).contents c.args.out.now);
+      progress =
+          rw (c.new-input.ensures, c.requires.start)
+          (begun c.args.jar.now.store (g.R.Source.state c.args.source.now).remaining (g.W.Sink.state c.args.sink.now).contents c.args.out.now);
       turns = search rules;
     }
 
