@@ -31,6 +31,8 @@ pub(crate) fn is_printed(rt: &impl Abort, alloc: Global, value: &impl Display, w
     is_text(rt, text.as_str(), wanted, &"no width");
     let wide = format!(in alloc; "{value:>200}").expect(rt, "memory");
     is_text(rt, wide.as_str(), wanted, &"a width");
+    drop(wide);
+    drop(text);
 }
 
 fn hash_of<T: Hash>(value: &T) -> u64 {

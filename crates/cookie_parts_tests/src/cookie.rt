@@ -41,6 +41,7 @@ fn copied(rt: &impl Abort, alloc: Global, cookie: &Cookie<'_>) -> Cookie<'static
     let copy = cookie.clone().expect(rt, "memory");
     let owned = copy.into_owned(alloc).expect(rt, "memory");
     let saved = owned.to_saved(alloc).expect(rt, "memory");
+    drop(owned);
     Cookie::from_saved(alloc, saved).expect(rt, "memory")
 }
 
@@ -55,6 +56,8 @@ fn is_saved_as(
     let saved = cookie.to_saved(alloc).expect(rt, "memory");
     let text = to_text(alloc, &saved).expect(rt, "memory");
     is_text(rt, text.as_str(), wanted, row);
+    drop(text);
+    drop(saved);
 }
 
 // Checks the saved form of the cookie and of its copy.
@@ -68,6 +71,7 @@ pub(crate) fn is_cookie(
     is_saved_as(rt, alloc, cookie, wanted, row);
     let copy = copied(rt, alloc, cookie);
     is_saved_as(rt, alloc, &copy, wanted, row);
+    drop(copy);
 }
 
 // A call, a URL, a header value received from it, and the saved form of its cookie.
@@ -169,6 +173,8 @@ fn is_received(rt: &impl Abort, alloc: Global, row: &(Call, &str, &str, &str)) {
     let url = url(rt, alloc, row.1);
     let cookie = cookie_by(rt, alloc, row.0, row.2, &url).expect(rt, "memory");
     is_cookie(rt, alloc, &cookie, row.3, row);
+    drop(cookie);
+    drop(url);
 }
 
 #[test]
@@ -242,6 +248,7 @@ fn is_rejected(rt: &impl Abort, alloc: Global, row: &(Call, &str, &str, CookieEr
     let url = url(rt, alloc, row.1);
     let error = cookie_by(rt, alloc, row.0, row.2, &url).err();
     is_equal(rt, &error, &Some(row.3), row);
+    drop(url);
 }
 
 #[test]
@@ -266,6 +273,7 @@ fn is_loaded(rt: &impl Abort, alloc: Global, text: &str) {
     let saved = from_text(alloc, text).expect(rt, "memory");
     let cookie = Cookie::from_saved(alloc, saved).expect(rt, "memory");
     is_cookie(rt, alloc, &cookie, text, &text);
+    drop(cookie);
 }
 
 #[test]

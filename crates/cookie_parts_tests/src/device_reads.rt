@@ -76,6 +76,7 @@ fn take_all(rt: &impl Abort, alloc: Global, text: &mut Vec<u8>, reader: &mut Rea
         }
     }
     add(rt, text, buffer.rest());
+    drop(buffer);
 }
 
 fn are_lines(rt: &impl Abort, alloc: Global, row: &Row) {
@@ -85,6 +86,10 @@ fn are_lines(rt: &impl Abort, alloc: Global, row: &Row) {
     take_all(rt, alloc, &mut text, &mut reader);
     let wanted = expanded(rt, alloc, row.3);
     is_equal(rt, &text.as_slice(), &wanted.as_bytes(), row);
+    drop(wanted);
+    drop(text);
+    drop(reader);
+    drop(input);
 }
 
 #[test]
@@ -139,6 +144,10 @@ fn are_bytes(rt: &impl Abort, alloc: Global, row: &Row) {
     read(rt, alloc, &mut text, &mut reader);
     let wanted = expanded(rt, alloc, row.3);
     is_equal(rt, &text.as_slice(), &wanted.as_bytes(), row);
+    drop(wanted);
+    drop(text);
+    drop(reader);
+    drop(input);
 }
 
 #[test]

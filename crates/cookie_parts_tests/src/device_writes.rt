@@ -116,7 +116,9 @@ fn take(
         Step::Line(text) => write_line(writer, text.as_bytes()),
         Step::Put(text) => {
             let text = expanded(rt, alloc, text);
-            output.put(writer, text.as_bytes())
+            let outcome = output.put(writer, text.as_bytes());
+            drop(text);
+            outcome
         }
         Step::PutAll(texts) => output.put_all(writer, texts),
         Step::Flush => output.flush(writer),
@@ -133,6 +135,8 @@ fn take_all(rt: &impl Abort, alloc: Global, writer: &mut Writer, row: &Row) {
         outcomes.push_str(mark).expect(rt, "memory");
     }
     is_equal(rt, &outcomes.as_str(), &row.3, &(row.0, row.1));
+    drop(outcomes);
+    drop(output);
 }
 
 // Checks also that no call is repeated, and what is written. The writer has room for that, so that no
@@ -150,6 +154,8 @@ fn is_written(rt: &impl Abort, alloc: Global, row: &Row) {
         &wanted.as_bytes(),
         &(row.0, row.1),
     );
+    drop(wanted);
+    drop(fake);
 }
 
 #[test]

@@ -32,11 +32,15 @@ pub(crate) fn built(
         Origin::Text(text) => CookieDomain::try_from_str(alloc, text),
         Origin::Raw(text) => {
             let raw = RawCookie::parse(text).expect(rt, "a cookie");
-            CookieDomain::try_from_raw(alloc, &raw)
+            let domain = CookieDomain::try_from_raw(alloc, &raw);
+            drop(raw);
+            domain
         }
         Origin::Host(at) => {
             let url = url(rt, alloc, at);
-            CookieDomain::host_only(alloc, &url).map_err(Error::from)
+            let domain = CookieDomain::host_only(alloc, &url).map_err(Error::from);
+            drop(url);
+            domain
         }
         Origin::HostOnly(host) => Ok(CookieDomain::HostOnly(owned(rt, alloc, host))),
         Origin::Suffix(host) => Ok(CookieDomain::Suffix(owned(rt, alloc, host))),
@@ -65,6 +69,9 @@ pub(crate) fn is_domain(rt: &impl Abort, alloc: Global, origin: &Origin<'_>, wan
     is_copy(rt, &copy, &domain, origin);
     let text = copy.to_string_in(alloc).expect(rt, "memory");
     is_equal(rt, &text.as_str(), &wanted.1, origin);
+    drop(text);
+    drop(copy);
+    drop(domain);
 }
 
 static DOMAINS: [(Origin<'static>, Parts<'static>); 15] = [
@@ -119,6 +126,7 @@ fn invalid_domain_names_are_rejected(rt: HostRuntime) {
     for (origin, error) in &NO_DOMAINS {
         let fault = built(&rt, rt.alloc(), origin).err();
         is_equal(&rt, &fault, &Some(fault_of(*error)), origin);
+        drop(fault);
     }
 }
 
@@ -194,6 +202,8 @@ fn covers(rt: &impl Abort, alloc: Global, row: &(Origin<'_>, &str, bool)) {
     let url = url(rt, alloc, at);
     let domain = built(rt, alloc, origin).expect(rt, "memory");
     is_equal(rt, &domain.matches(&url), wanted, row);
+    drop(domain);
+    drop(url);
 }
 
 #[test]
@@ -224,6 +234,7 @@ fn a_domain_name_covers_hosts(rt: HostRuntime) {
         let url = url(&rt, rt.alloc(), row.1);
         let is_for = is_match(rt.alloc(), row.0, &url).expect(&rt, "memory");
         is_equal(&rt, &is_for, &row.2, row);
+        drop(url);
     }
 }
 
@@ -250,6 +261,7 @@ static PUBLIC_SUFFIXES: [(Origin<'static>, bool); 14] = [
 fn is_public(rt: &impl Abort, alloc: Global, list: &List, row: &(Origin<'_>, bool)) {
     let domain = built(rt, alloc, &row.0).expect(rt, "memory");
     is_equal(rt, &domain.is_public_suffix(list), &row.1, row);
+    drop(domain);
 }
 
 #[test]
@@ -258,6 +270,7 @@ fn a_listed_domain_is_a_public_suffix(rt: HostRuntime) {
     for row in &PUBLIC_SUFFIXES {
         is_public(&rt, rt.alloc(), &list, row);
     }
+    drop(list);
 }
 
 // A host, and whether it is a host name.

@@ -31,6 +31,7 @@ fn page_url(rt: &impl Abort, alloc: Global) -> Url {
     let page = expanded(rt, alloc, PAGE);
     let url = url(rt, alloc, page.as_str());
     is_text(rt, url.as_str(), page.as_str(), &"the URL");
+    drop(page);
     url
 }
 
@@ -39,6 +40,9 @@ fn is_created(rt: &impl Abort, alloc: Global, call: Call, text: &str) {
     let cookie = cookie_by(rt, alloc, call, text, &url).expect(rt, "a cookie");
     let wanted = expanded(rt, alloc, SAVED);
     is_cookie(rt, alloc, &cookie, wanted.as_str(), &call);
+    drop(wanted);
+    drop(cookie);
+    drop(url);
 }
 
 // The raw cookie of the header value, and that of its cookie.
@@ -50,19 +54,19 @@ fn raw_cookie(rt: &impl Abort, alloc: Global, text: &str) -> RawCookie<'static> 
 fn converted(rt: &impl Abort, alloc: Global, text: &str) -> RawCookie<'static> {
     let url = page_url(rt, alloc);
     let cookie = cookie_by(rt, alloc, Call::Parse, text, &url).expect(rt, "a cookie");
+    drop(url);
     cookie.into_raw(alloc).expect(rt, "memory")
 }
 
 fn are_printed(rt: &impl Abort, alloc: Global, text: &str) {
-    prints(rt, alloc, &raw_cookie(rt, alloc, text), text, true);
+    let raw = raw_cookie(rt, alloc, text);
+    prints(rt, alloc, &raw, text, true);
+    drop(raw);
     let wanted = expanded(rt, alloc, EXPIRES);
-    prints(
-        rt,
-        alloc,
-        &converted(rt, alloc, text),
-        wanted.as_str(),
-        true,
-    );
+    let raw = converted(rt, alloc, text);
+    prints(rt, alloc, &raw, wanted.as_str(), true);
+    drop(raw);
+    drop(wanted);
 }
 
 #[test]
@@ -72,6 +76,7 @@ fn long_cookies_are_created_and_printed(rt: HostRuntime) {
         is_created(&rt, rt.alloc(), call, text.as_str());
     }
     are_printed(&rt, rt.alloc(), text.as_str());
+    drop(text);
 }
 
 fn are_domains(rt: &impl Abort, alloc: Global, host: &str, page: &str, text: &str) {
@@ -81,6 +86,7 @@ fn are_domains(rt: &impl Abort, alloc: Global, host: &str, page: &str, text: &st
     let url = url(rt, alloc, page);
     let is_match = is_match(alloc, host, &url).expect(rt, "memory");
     is_equal(rt, &is_match, &true, &"the host");
+    drop(url);
 }
 
 fn are_paths(rt: &impl Abort, alloc: Global, path: &str, page: &str) {
@@ -97,6 +103,10 @@ fn long_domains_and_paths_are_parsed(rt: HostRuntime) {
     let path = expanded(&rt, rt.alloc(), "/…");
     are_domains(&rt, rt.alloc(), host.as_str(), page.as_str(), text.as_str());
     are_paths(&rt, rt.alloc(), path.as_str(), page.as_str());
+    drop(path);
+    drop(text);
+    drop(page);
+    drop(host);
 }
 
 // A form of one cookie or of several, as it is printed: its beginning, an item and how often it is
@@ -167,6 +177,8 @@ fn is_form(rt: &impl Abort, alloc: Global, row: &(Form, &str, &str, usize, &str)
     let items = row.2.repeat(alloc, row.3).expect(rt, "memory");
     let text = format!(in alloc; "{}{items}{}", row.1, row.4).expect(rt, "memory");
     is_printed_again(rt, alloc, row.0, text.as_str(), Ok(text.as_str()));
+    drop(text);
+    drop(items);
 }
 
 #[test]
@@ -179,7 +191,9 @@ fn long_saved_forms_are_read_and_printed(rt: HostRuntime) {
 // A rule of n labels and one more.
 fn rule(rt: &impl Abort, alloc: Global, labels: usize) -> String {
     let labels = "a.".repeat(alloc, labels).expect(rt, "memory");
-    format!(in alloc; "{labels}a").expect(rt, "memory")
+    let rule = format!(in alloc; "{labels}a").expect(rt, "memory");
+    drop(labels);
+    rule
 }
 
 // A rule has at most 127 labels.
@@ -198,4 +212,8 @@ fn rules_have_at_most_127_labels(rt: HostRuntime) {
     let domain = "a.".repeat(rt.alloc(), 10_000).expect(&rt, "memory");
     let suffix = list.suffix(domain.as_str()).expect(&rt, "a suffix");
     is_equal(&rt, &suffix.as_str().len(), &254, &"a rule of 127");
+    drop(domain);
+    drop(list);
+    drop(rule);
+    drop(long);
 }

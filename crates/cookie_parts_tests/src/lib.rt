@@ -1,5 +1,9 @@
 //! Tests of a cookie's parts and of the crates below them, of maps and of tables, on examples from
 //! outside the project and with each allocation failing in turn.
+//!
+//! A function that owns a string, a cookie or another value of several parts ends with a `drop` of
+//! it, for the checker: a call of `drop` is proved once, and what would be dropped without it in each
+//! function.
 #![tactic(auto)]
 
 #[cfg(test)]

@@ -86,12 +86,15 @@ fn shown(rt: &impl Abort, map: &Map) -> String {
     for (key, value) in map.iter() {
         let entry = format!(in *map.allocator(); "{key}={value} ").expect(rt, "memory");
         text.push_str(entry.as_str()).expect(rt, "memory");
+        drop(entry);
     }
     text
 }
 
 fn has_entries(rt: &impl Abort, map: &Map, expected: &str) {
-    is_text(rt, shown(rt, map).as_str(), expected, &"the entries");
+    let entries = shown(rt, map);
+    is_text(rt, entries.as_str(), expected, &"the entries");
+    drop(entries);
 }
 
 #[test]
@@ -101,6 +104,7 @@ fn edits_keep_the_order(rt: HostRuntime) {
         make(&rt, &mut map, edit);
         has_entries(&rt, &map, entries);
     }
+    drop(map);
 }
 
 // Checks what each call finds in `a=1 b=2 c=3`.
@@ -126,6 +130,7 @@ fn finds_entries(rt: HostRuntime) {
     add(&rt, &mut map, "c", 3);
     are_found(&rt, &map);
     are_values(&rt, &map);
+    drop(map);
 }
 
 // Removes the key `step / 2 * step % 11` if it is there, and else adds it; each third step moves
@@ -139,7 +144,9 @@ fn churn(rt: &impl Abort, map: &mut Map, step: u32) {
     if step % 3 == 0 {
         let moved = format!(in alloc; "{}", step % 11).expect(rt, "memory");
         map.move_to_end(moved.as_str());
+        drop(moved);
     }
+    drop(key);
 }
 
 // The expected entries are those of Python's `dict`.
@@ -150,4 +157,5 @@ fn churns(rt: HostRuntime) {
         churn(&rt, &mut map, step);
     }
     has_entries(&rt, &map, "2=486 7=490 8=488 0=495 1=497 6=499 ");
+    drop(map);
 }

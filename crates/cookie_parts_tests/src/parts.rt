@@ -24,6 +24,7 @@ pub(crate) fn expanded(rt: &impl Abort, alloc: Global, text: &str) -> String {
 fn push_run(rt: &impl Abort, alloc: Global, text: &mut String, piece: &str, times: usize) {
     let run = piece.repeat(alloc, times).expect(rt, "memory");
     text.push_str(run.as_str()).expect(rt, "memory");
+    drop(run);
 }
 
 pub(crate) fn owned(rt: &impl Abort, alloc: Global, text: &str) -> String {

@@ -13,6 +13,7 @@ fn path(rt: &impl Abort, alloc: Global, from: &str, attribute: Option<&str>) -> 
         Some(text) => CookiePath::new(alloc, text, &url),
         None => CookiePath::default_path(alloc, &url),
     };
+    drop(url);
     path.expect(rt, "memory")
 }
 
@@ -31,6 +32,9 @@ pub(crate) fn is_path(
     is_copy(rt, &copy, &path, &"a copy");
     let text = copy.to_string_in(alloc).expect(rt, "memory");
     is_text(rt, text.as_str(), wanted.0, &"its string");
+    drop(text);
+    drop(copy);
+    drop(path);
 }
 
 // A URL, the Path attribute of a cookie received from it, if there is one, its path, and whether the
@@ -79,6 +83,7 @@ pub(crate) fn is_covered(rt: &impl Abort, alloc: Global, text: &str, at: &str, w
         Some(path) => is_equal(rt, &path.matches(&url), &wanted, &at),
         None => is_equal(rt, &text.starts_with('/'), &false, &at),
     }
+    drop(url);
 }
 
 // A cookie's path, a URL, and whether they match.

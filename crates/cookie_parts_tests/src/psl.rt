@@ -63,12 +63,15 @@ fn is_found(rt: &impl Abort, alloc: Global, row: &Row) {
     let list = list(rt, alloc, row.0);
     let copy = list.clone().expect(rt, "memory");
     has_suffix(rt, &copy, row.1, row.2);
+    drop(copy);
+    drop(list);
 }
 
 fn is_found_by_default(rt: &impl Abort, alloc: Global, row: &Row) {
     let list = list(rt, alloc, row.0);
     let list = list.with_default_rule().expect(rt, "memory");
     has_suffix(rt, &list, row.1, row.2);
+    drop(list);
 }
 
 #[test]
@@ -149,4 +152,5 @@ fn finds_registrable_domains(rt: HostRuntime) {
         let (domain, wanted) = sides(row);
         is_equal(&rt, &list.registrable_domain(domain), &wanted, row);
     }
+    drop(list);
 }

@@ -180,6 +180,7 @@ fn header_values_are_parsed(rt: HostRuntime) {
     for (text, wanted) in &PARSED {
         let cookie = RawCookie::parse(text).expect(&rt, "a cookie");
         has_parts(&rt, &cookie, wanted, text);
+        drop(cookie);
     }
 }
 
@@ -318,6 +319,8 @@ fn reads_back(rt: &impl Abort, cookie: &RawCookie<'_>, printed: &str, is_plain: 
         &(is_plain, is_plain),
         &printed,
     );
+    drop(parsed);
+    drop(copy);
 }
 
 // Checks also what it prints.
@@ -332,6 +335,7 @@ pub(crate) fn prints(
     is_text(rt, text.as_str(), printed, &is_plain);
     is_printed(rt, alloc, cookie, printed);
     reads_back(rt, cookie, printed, is_plain);
+    drop(text);
 }
 
 #[test]
@@ -340,5 +344,6 @@ fn cookies_are_printed(rt: HostRuntime) {
     for (origin, printed, is_plain) in &PRINTED {
         let cookie = built(&rt, rt.alloc(), origin);
         prints(&rt, rt.alloc(), &cookie, printed, *is_plain);
+        drop(cookie);
     }
 }

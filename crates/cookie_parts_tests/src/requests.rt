@@ -131,6 +131,8 @@ fn is_excluded(rt: &impl Abort, alloc: Global, row: &Request) {
     );
     let is_match = matches!(row.3, None | Some(Exclusion::Expired));
     is_equal(rt, &results, &(is_match, row.3), row);
+    drop(at);
+    drop(cookie);
 }
 
 #[test]
@@ -183,6 +185,8 @@ fn has_raw(rt: &impl Abort, alloc: Global, cookie: &Cookie<'_>, wanted: &str) {
     let raw = copy.into_raw(alloc).expect(rt, "memory");
     let text = raw.to_text(alloc).expect(rt, "memory");
     is_text(rt, text.as_str(), wanted, &wanted);
+    drop(text);
+    drop(raw);
 }
 
 fn expires(rt: &impl Abort, alloc: Global, row: &(&str, Attributes, &str)) {
@@ -194,6 +198,7 @@ fn expires(rt: &impl Abort, alloc: Global, row: &(&str, Attributes, &str)) {
     cookie.expire();
     let is_expired = (cookie.is_expired(now), cookie.expires_by(&now));
     is_equal(rt, &is_expired, &(true, true), row);
+    drop(cookie);
 }
 
 #[test]

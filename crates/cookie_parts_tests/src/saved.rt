@@ -25,13 +25,17 @@ fn tree(rt: &impl Abort, alloc: Global, text: &str) -> Value {
 // Prints the JSON value of the cookie.
 fn cookie_by_tree(rt: &impl Abort, alloc: Global, saved: &Saved) -> String {
     let tree = to_value(alloc, saved).expect(rt, "memory");
-    tree.to_string(alloc).expect(rt, "memory")
+    let text = tree.to_string(alloc).expect(rt, "memory");
+    drop(tree);
+    text
 }
 
 // The same for a list.
 fn list_by_tree(rt: &impl Abort, alloc: Global, list: &[Saved]) -> String {
     let tree = list_to_value(alloc, list).expect(rt, "memory");
-    tree.to_string(alloc).expect(rt, "memory")
+    let text = tree.to_string(alloc).expect(rt, "memory");
+    drop(tree);
+    text
 }
 
 // Reads the form and prints it again, or returns the error.

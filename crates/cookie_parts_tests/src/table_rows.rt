@@ -47,12 +47,17 @@ fn shown(alloc: Global, row: &Row) -> Result<String, AllocError> {
 
 fn row_of(rt: &impl Abort, alloc: Global, header: &str) -> Row {
     let cookie = parsed(rt, alloc, header);
-    to_row(alloc, 7, &cookie).expect(rt, "memory")
+    let row = to_row(alloc, 7, &cookie).expect(rt, "memory");
+    drop(cookie);
+    row
 }
 
 fn reads_back(rt: &impl Abort, alloc: Global, row: &Row, header: &str) {
     let cookie = from_row(alloc, row).expect(rt, "a row of a cookie");
-    is_equal(rt, &cookie, &parsed(rt, alloc, header), &header);
+    let wanted = parsed(rt, alloc, header);
+    is_equal(rt, &cookie, &wanted, &header);
+    drop(wanted);
+    drop(cookie);
 }
 
 #[test]
@@ -60,6 +65,7 @@ fn a_row_reads_back(rt: HostRuntime) {
     for header in &HEADERS {
         let row = row_of(&rt, rt.alloc(), header);
         reads_back(&rt, rt.alloc(), &row, header);
+        drop(row);
     }
 }
 
@@ -68,6 +74,8 @@ fn a_row_has_a_value_for_each_column(rt: HostRuntime) {
     let row = row_of(&rt, rt.alloc(), HEADERS[1]);
     let shown = shown(rt.alloc(), &row).expect(&rt, "memory");
     is_text(&rt, shown.as_str(), COLUMNS, &"the columns");
+    drop(shown);
+    drop(row);
 }
 
 #[test]

@@ -1,8 +1,9 @@
 //! Transactions of a table, in memory.
-ghost use Rattle.std.specs.Prelude.{◌≡◌, IfOk};
+ghost use Rattle.std.specs.Prelude.{◌≡◌};
 ghost use Rattle.std.specs.List.{All};
 ghost use Rattle.durable_table.specs.Changes.{HasRowid};
 
+use crate::checks::{is_equal, is_text};
 use durable_table::{Change, commit_each, commit_each_then_crash};
 use sqlite_trees::error::StoreError;
 use sqlite_trees::memory::MemStore;
@@ -12,7 +13,6 @@ use sqlite_value::row::Row;
 use sqlite_value::value::ValueRef;
 use std::alloc::{AllocError, Global};
 use std::process::Abort;
-use std::test::*;
 
 static SCHEMA: [Object<'static>; 1] = [Object {
     shape: Shape::Table,
@@ -35,135 +35,134 @@ static TRANSACTIONS: [&[(i64, &str)]; 4] = [
 // The strings of rowid 1 to 5 after each of them.
 static AFTER: [&str; 3] = ["-----", "abc--", "-Bc--"];
 
-// An allocation of a size that is used for nothing else: the first and the last mark enclose the
-// allocations that are to fail.
-fn mark(alloc: Global, size: usize) {
-    let _mark: Result<Vec<u8>, AllocError> = Vec::with_capacity(alloc, size);
+// Allocates as much as nothing else does: the first and the last mark enclose the allocations that are
+// to fail. Returns whether it succeeds; the last one fails if one of them did.
+fn mark(alloc: Global, size: usize) -> bool {
+    let mark: Result<Vec<u8>, AllocError> = Vec::with_capacity(alloc, size);
+    mark.is_ok()
 }
 
-fn change(alloc: Global, id: i64, text: &str) -> Result<Change, AllocError>
-    ensures { IfOk result HasRowid }
+fn change(rt: &impl Abort, alloc: Global, id: i64, text: &str) -> Change
+    ensures { HasRowid result }
 {
     if text.is_empty() {
-        return Ok(Change::Delete(id));
+        return Change::Delete(id);
     }
     let mut row = Row::new(alloc);
-    row.push(ValueRef::Int(id))?;
+    row.push(ValueRef::Int(id)).expect(rt, "memory");
     if text != "!" {
-        row.push(ValueRef::Text(text.as_bytes()))?;
+        row.push(ValueRef::Text(text.as_bytes()))
+            .expect(rt, "memory");
     }
-    Ok(Change::Put(row))
+    Change::Put(row)
 }
 
-fn changes(alloc: Global, pairs: &[(i64, &str)]) -> Result<Vec<Change>, AllocError>
-    ensures { IfOk result (λ changes. All HasRowid changes.items) }
+fn changes(rt: &impl Abort, alloc: Global, pairs: &[(i64, &str)]) -> Vec<Change>
+    ensures { All HasRowid result.items }
 {
     let mut changes = Vec::new(alloc);
     for (id, text) in pairs {
-        changes.push(change(alloc, *id, text)?)?;
+        changes
+            .push(change(rt, alloc, *id, text))
+            .expect(rt, "memory");
     }
-    Ok(changes)
+    changes
 }
 
-fn transactions(alloc: Global) -> Result<Vec<Vec<Change>>, AllocError>
-    ensures { IfOk result (λ transactions. All (λ changes. All HasRowid changes.items) transactions.items) }
+fn transactions(rt: &impl Abort, alloc: Global) -> Vec<Vec<Change>>
+    ensures { All (λ changes. All HasRowid changes.items) result.items }
 {
     let mut transactions = Vec::new(alloc);
     for pairs in &TRANSACTIONS {
-        transactions.push(changes(alloc, pairs)?)?;
+        transactions
+            .push(changes(rt, alloc, pairs))
+            .expect(rt, "memory");
     }
-    Ok(transactions)
+    transactions
 }
 
 // The string of the row of this rowid, or `-`.
-fn text_of<'a, S: Store>(
-    rt: &impl Abort,
-    store: &mut S,
-    row: &'a mut Row,
-    id: i64,
-) -> Result<&'a str, StoreError> {
+fn text_of<'a, S: Store>(rt: &impl Abort, store: &mut S, row: &'a mut Row, id: i64) -> &'a str {
     assert!(rt; matches!(store.shape(0), Shape::Table));
-    if !store.get(0, id, row)? {
-        return Ok("-");
+    if !store.get(0, id, row).expect(rt, "a row") {
+        return "-";
     }
     match row.get(1) {
-        ValueRef::Text(bytes) => Ok(str::from_utf8(bytes).unwrap_or("?")),
-        _ => Ok("?"),
+        ValueRef::Text(bytes) => str::from_utf8(bytes).unwrap_or("?"),
+        _ => "?",
     }
 }
 
-// The strings of the rows of rowid 1 to 5.
-fn shown<S: Store>(rt: &impl Abort, alloc: Global, store: &mut S) -> Result<String, StoreError> {
+// Checks the strings of the rows of rowid 1 to 5.
+fn has_rows<S: Store>(rt: &impl Abort, alloc: Global, store: &mut S, wanted: &str) {
     let mut text = String::new(alloc);
     let mut row = Row::new(alloc);
     for id in 1i64..6 {
-        text.push_str(text_of(rt, store, &mut row, id)?)?;
+        text.push_str(text_of(rt, store, &mut row, id))
+            .expect(rt, "memory");
     }
-    Ok(text)
+    is_text(rt, text.as_str(), wanted, &"the rows");
+    drop(row);
+    drop(text);
 }
 
-// Commits the transactions, and checks that the table has the rows of those that were committed.
-// Returns how many these are, and the error.
-fn commits<S: Reopen>(
+// Commits the transactions. Returns how many were committed, the error, and whether no allocation
+// failed.
+fn committed<S: Reopen>(
     rt: &impl Abort,
     alloc: Global,
     store: &mut S,
-) -> Result<(usize, Option<StoreError>), Fail>
+) -> (usize, Option<StoreError>, bool)
     requires { (S.Store.view store.old).trees ≡ (S.Store.view store.old).committed }
 {
-    let transactions = transactions(alloc)?;
+    let transactions = transactions(rt, alloc);
     assert!(rt; matches!(store.shape(0), Shape::Table) && !store.is_broken());
     mark(alloc, 48_271);
     let (done, result) = commit_each(store, 0, transactions.as_slice());
-    mark(alloc, 48_281);
-    assert_eq!(rt;
-        shown(rt, alloc, store)?.as_str(),
-        *AFTER.get(done).unwrap_or(&"")
-    );
-    Ok((done, result.err()))
+    let committed = (done, result.err(), mark(alloc, 48_281));
+    drop(transactions);
+    committed
 }
 
-// The same, with a crash and an open after it.
-fn survives<S: Reopen>(rt: &impl Abort, alloc: Global, store: &mut S) -> Result<(), Fail>
+// The same, with a crash and an open after it. Returns how many were committed.
+fn committed_before_crash<S: Reopen>(rt: &impl Abort, alloc: Global, store: &mut S) -> usize
     requires { (S.Store.view store.old).trees ≡ (S.Store.view store.old).committed }
 {
-    let transactions = transactions(alloc)?;
+    let transactions = transactions(rt, alloc);
     assert!(rt; matches!(store.shape(0), Shape::Table) && !store.is_broken());
-    assert_eq!(rt;
-        commit_each_then_crash(store, 0, transactions.as_slice())?,
-        2
-    );
-    assert_eq!(rt; shown(rt, alloc, store)?.as_str(), AFTER[2]);
-    Ok(())
+    let done = commit_each_then_crash(store, 0, transactions.as_slice()).expect(rt, "a store");
+    drop(transactions);
+    done
 }
 
 #[test]
-fn transactions_are_committed_up_to_the_first_that_fails(rt: HostRuntime) -> Result<(), Fail> {
-    let mut store = MemStore::new(rt.alloc(), &SCHEMA)?;
-    let committed = commits(&rt, rt.alloc(), &mut store)?;
-    assert_eq!(rt; committed, (2, Some(StoreError::Unstorable)));
-    Ok(())
-}
-
-#[test]
-fn a_crash_keeps_what_was_committed(rt: HostRuntime) -> Result<(), Fail> {
-    let mut store = MemStore::new(rt.alloc(), &SCHEMA)?;
-    survives(&rt, rt.alloc(), &mut store)
+fn a_crash_keeps_what_was_committed(rt: HostRuntime) {
+    let mut store = MemStore::new(rt.alloc(), &SCHEMA).expect(&rt, "a store");
+    let done = committed_before_crash(&rt, rt.alloc(), &mut store);
+    is_equal(&rt, &done, &2, &"the crash");
+    has_rows(&rt, rt.alloc(), &mut store, AFTER[2]);
+    drop(store);
 }
 
 mod allocations {
     use super::*;
 
+    // The transactions are committed up to the one that cannot be stored, or up to the one that is
+    // out of memory.
     #[test]
-    fn a_transaction_is_rolled_back(rt: HostRuntime) -> Result<(), Fail> {
-        let mut store = MemStore::new(rt.alloc(), &SCHEMA)?;
-        let committed = commits(&rt, rt.alloc(), &mut store)?;
-        assert!(rt;
-            matches!(
-                committed,
-                (2, Some(StoreError::Unstorable)) | (_, Some(StoreError::OutOfMemory))
-            )
-        );
-        Ok(())
+    fn a_transaction_is_rolled_back(rt: HostRuntime) {
+        let mut store = MemStore::new(rt.alloc(), &SCHEMA).expect(&rt, "a store");
+        let (done, error, is_ample) = committed(&rt, rt.alloc(), &mut store);
+        has_rows(&rt, rt.alloc(), &mut store, AFTER.get(done).unwrap_or(&""));
+        match error {
+            Some(StoreError::OutOfMemory) => is_equal(&rt, &is_ample, &false, &done),
+            _ => is_equal(
+                &rt,
+                &(done, error),
+                &(2, Some(StoreError::Unstorable)),
+                &is_ample,
+            ),
+        }
+        drop(store);
     }
 }

@@ -32,7 +32,7 @@ pub fn built(alloc: Global, items: IntoIter<Item>) -> Result<CookieStore, Format
         alloc,
         hash_key: HashKey::Fixed,
     };
-    Ok(CookieStore::from_cookies(alloc, items, true, new_year())?)
+    CookieStore::from_cookies(alloc, items, true, new_year()).map_err(FormatError::Store)
 }
 
 // A store of the cookies, expired ones included.

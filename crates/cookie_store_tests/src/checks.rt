@@ -19,10 +19,10 @@ pub fn is_text(rt: &impl Abort, text: &str, wanted: &str, row: &impl Debug) {
 }
 
 // Checks the message of the error; `wanted` is empty if there is none.
-pub fn is_message<T, E: Display>(
+pub fn is_message<T: Drop, E: Display + Drop>(
     rt: &impl Abort,
     alloc: Global,
-    outcome: &Result<T, E>,
+    outcome: Result<T, E>,
     wanted: &str,
     row: &impl Debug,
 ) {

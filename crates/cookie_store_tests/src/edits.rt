@@ -1,6 +1,6 @@
 //! Edits of `cookies.txt` files.
 use crate::allocations::{end, start};
-use crate::built::UrlAndValue;
+use crate::built::{UrlAndValue, cookie, store_of};
 use crate::checks::{is_equal, is_text};
 use cookie_store::edit::{put_line, retain_lines};
 use cookie_store::netscape::NetscapeError;
@@ -88,23 +88,32 @@ pub fn is_retained(rt: &impl Abort, alloc: Global, file: &str, store: &CookieSto
     }
 }
 
+fn has_line(rt: &impl Abort, alloc: Global, put: &Put) {
+    let cookie = cookie(rt, alloc, &put.1);
+    is_put(rt, alloc, put.0, &cookie, put.2);
+    drop(cookie);
+}
+
+fn has_own_lines(rt: &impl Abort, alloc: Global, retained: &Retained) {
+    let store = store_of(rt, alloc, retained.1);
+    is_retained(rt, alloc, retained.0, &store, retained.2);
+    drop(store);
+}
+
 mod allocations {
-    use super::{PUT, RETAINED, is_put, is_retained};
-    use crate::built::{cookie, store_of};
+    use super::{PUT, RETAINED, has_line, has_own_lines};
 
     #[test]
     fn a_line_is_put(rt: HostRuntime) {
-        for (file, came, wanted) in &PUT {
-            let cookie = cookie(&rt, rt.alloc(), came);
-            is_put(&rt, rt.alloc(), file, &cookie, *wanted);
+        for put in &PUT {
+            has_line(&rt, rt.alloc(), put);
         }
     }
 
     #[test]
     fn lines_are_retained(rt: HostRuntime) {
-        for (file, came, wanted) in &RETAINED {
-            let store = store_of(&rt, rt.alloc(), came);
-            is_retained(&rt, rt.alloc(), file, &store, wanted);
+        for retained in &RETAINED {
+            has_own_lines(&rt, rt.alloc(), retained);
         }
     }
 }

@@ -2,6 +2,7 @@
 ghost use Rattle.std.specs.Prelude.{◌-◌, ◌^◌, ◌<◌};
 
 use crate::checks::{is_equal, is_text};
+use crate::saved_files::FROM;
 use crate::steps::new_year;
 use cookie_fakes::Fake;
 use cookie_store::device::{Counted, Sink, Source};
@@ -113,24 +114,38 @@ fn save_file<W: Sink>(
 {
     let now = new_year();
     match (form, all) {
-        (Form::Json, true) => Ok(json::save_incl_expired_and_nonpersistent(store, writer)?),
-        (Form::Json, false) => Ok(json::save(store, writer, now)?),
-        (Form::Ron, true) => Ok(ron::save_incl_expired_and_nonpersistent(store, writer)?),
-        (Form::Ron, false) => Ok(ron::save(store, writer, now)?),
-        (Form::Netscape, true) => {
-            Ok(netscape::save_incl_expired_and_nonpersistent(store, writer)?)
-        }
-        (Form::Netscape, false) => Ok(netscape::save(store, writer, now)?),
-        (Form::WellFormed, _) => {
-            let _left_out = netscape::save_representable(store, writer, saved(all))?;
-            Ok(())
-        }
+        (Form::Json, true) => json::save_incl_expired_and_nonpersistent(store, writer).map_err(
+            FormatError::Store,
+        ),
+        (Form::Json, false) => json::save(store, writer, now).map_err(FormatError::Store),
+        (Form::Ron, true) => ron::save_incl_expired_and_nonpersistent(store, writer).map_err(
+            FormatError::Store,
+        ),
+        (Form::Ron, false) => ron::save(store, writer, now).map_err(FormatError::Store),
+        (Form::Netscape, true) => netscape::save_incl_expired_and_nonpersistent(
+            store, writer,
+        ).map_err(FormatError::from),
+        (Form::Netscape, false) => netscape::save(store, writer, now).map_err(FormatError::from),
+        (Form::WellFormed, _) => save_representable(store, writer, saved(all)),
         (Form::As(format), _) => serde::save_as(store, writer, format, saved(all)),
     }
 }
 
-// The result of saving, how many writes failed, and the writer.
-pub type Saved = (Result<(), FormatError>, u64, Fake<Vec<u8>>);
+fn save_representable<W: Sink>(
+    store: &CookieStore,
+    writer: &mut W,
+    which: Which,
+) -> Result<(), FormatError>
+    requires { (W.state writer.old).failed < 2 ^ 64 - 1 }
+{
+    match netscape::save_representable(store, writer, which) {
+        Ok(_) => Ok(()),
+        Err(error) => Err(FormatError::from(error)),
+    }
+}
+
+// How saving ended, how many writes failed, and the writer.
+pub type Saved = (&'static str, u64, Fake<Vec<u8>>);
 
 // Saves the cookies in the format: all, or the persistent ones at the new year.
 pub fn save(
@@ -145,20 +160,29 @@ pub fn save(
         Shape::File(form) => save_file(form, all, store, &mut writer),
         _ => save_lines(alloc, shape, all, store, &mut writer).map_err(FormatError::Store),
     };
-    (outcome, writer.failures(), writer.into_inner())
+    let end = end_of(&outcome);
+    drop(outcome);
+    (end, writer.failures(), writer.into_inner())
 }
 
-// The cookie of a line, as received from the URL.
-pub fn cookie_of<'l>(alloc: Global, line: &'l str, url: &Url) -> Result<Cookie<'l>, Error> {
+fn received<'l>(alloc: Global, line: &'l str, url: &Url) -> Result<Cookie<'l>, Error> {
     Ok(Cookie::parse(alloc, line, url, new_year())?)
 }
 
-// The cookies of pairs, as received from the URL.
-fn cookies_of<'t>(alloc: Global, text: &'t str, url: &Url) -> Result<Vec<Cookie<'t>>, Error> {
+// The cookie of a line, as received from `FROM`.
+pub fn cookie_of<'l>(alloc: Global, line: &'l str) -> Result<Cookie<'l>, Error> {
+    match Url::parse(alloc, FROM) {
+        Ok(url) => received(alloc, line, &url),
+        Err(_) => Err(Error::Memory),
+    }
+}
+
+// The cookies of pairs, as received from `FROM`.
+fn cookies_of<'t>(alloc: Global, text: &'t str) -> Result<Vec<Cookie<'t>>, Error> {
     let mut cookies = Vec::new(alloc);
     for pair in text.trim_end().split('|') {
         if !pair.is_empty() {
-            cookies.push(cookie_of(alloc, pair, url)?)?;
+            cookies.push(cookie_of(alloc, pair)?)?;
         }
     }
     Ok(cookies)
@@ -168,7 +192,6 @@ fn load_lines<R: Source>(
     alloc: Global,
     shape: Shape,
     all: bool,
-    url: &Url,
     reader: &mut R,
 ) -> Result<CookieStore, Error>
     requires { (R.state reader.old).failed < 2 ^ 64 - 1 }
@@ -176,17 +199,15 @@ fn load_lines<R: Source>(
     let now = new_year();
     match (shape, all) {
         (Shape::Values, true) => {
-            CookieStore::load_all(alloc, reader, |line| cookie_of(alloc, line, url), now)
+            CookieStore::load_all(alloc, reader, |line| cookie_of(alloc, line), now)
         }
         (Shape::Values, false) => {
-            CookieStore::load(alloc, reader, |line| cookie_of(alloc, line, url), now)
+            CookieStore::load(alloc, reader, |line| cookie_of(alloc, line), now)
         }
         (Shape::Pairs, true) => {
-            serde::load_all(alloc, reader, |text| cookies_of(alloc, text, url), now)
+            serde::load_all(alloc, reader, |text| cookies_of(alloc, text), now)
         }
-        (Shape::Pairs, false) => {
-            serde::load(alloc, reader, |text| cookies_of(alloc, text, url), now)
-        }
+        (Shape::Pairs, false) => { serde::load(alloc, reader, |text| cookies_of(alloc, text), now) }
         (_, true) => CookieStore::load_json_all(alloc, reader, now),
         (_, false) => CookieStore::load_json(alloc, reader, now),
     }
@@ -202,16 +223,27 @@ fn load_file<R: Source>(
 {
     let now = new_year();
     match (form, all) {
-        (Form::Json, true) => Ok(json::load_all(alloc, reader, now)?),
-        (Form::Json, false) => Ok(json::load(alloc, reader, now)?),
-        (Form::Ron, true) => Ok(ron::load_all(alloc, reader, now)?),
-        (Form::Ron, false) => Ok(ron::load(alloc, reader, now)?),
-        (Form::Netscape, true) => Ok(netscape::load_all(alloc, reader, now)?),
-        (Form::Netscape, false) => Ok(netscape::load(alloc, reader, now)?),
-        (Form::WellFormed, _) => {
-            Ok(netscape::load_well_formed(alloc, reader, loaded(all))?.store)
-        }
+        (Form::Json, true) => json::load_all(alloc, reader, now).map_err(FormatError::Store),
+        (Form::Json, false) => json::load(alloc, reader, now).map_err(FormatError::Store),
+        (Form::Ron, true) => ron::load_all(alloc, reader, now).map_err(FormatError::Store),
+        (Form::Ron, false) => ron::load(alloc, reader, now).map_err(FormatError::Store),
+        (Form::Netscape, true) => netscape::load_all(alloc, reader, now).map_err(FormatError::from),
+        (Form::Netscape, false) => netscape::load(alloc, reader, now).map_err(FormatError::from),
+        (Form::WellFormed, _) => load_well_formed(alloc, reader, loaded(all)),
         (Form::As(format), _) => serde::load_as(alloc, reader, format, loaded(all)),
+    }
+}
+
+fn load_well_formed<R: Source>(
+    alloc: Global,
+    reader: &mut R,
+    which: Which,
+) -> Result<CookieStore, FormatError>
+    requires { (R.state reader.old).failed < 2 ^ 64 - 1 }
+{
+    match netscape::load_well_formed(alloc, reader, which) {
+        Ok(loaded) => Ok(loaded.store),
+        Err(error) => Err(FormatError::from(error)),
     }
 }
 
@@ -237,21 +269,19 @@ fn migrate<R: Source>(
 // The result of loading, how many reads failed, and the reader.
 pub type Loaded<'a> = (Result<CookieStore, FormatError>, u64, Fake<&'a [u8]>);
 
-// Loads the cookies in the format: all, or the unexpired ones at the new year. Functions of the
-// tests parse them as received from the URL.
+// Loads the cookies in the format: all, or the unexpired ones at the new year.
 pub fn load<'a>(
     rt: &impl Abort,
     alloc: Global,
     shape: Shape,
     all: bool,
-    url: &Url,
     fake: Fake<&'a [u8]>,
 ) -> Loaded<'a> {
     let mut reader = Counted::new(fake);
     let outcome = match shape {
         Shape::File(form) => load_file(alloc, form, all, &mut reader),
         Shape::Migrated => migrate(rt, alloc, &mut reader),
-        _ => load_lines(alloc, shape, all, url, &mut reader).map_err(FormatError::Store),
+        _ => load_lines(alloc, shape, all, &mut reader).map_err(FormatError::Store),
     };
     (outcome, reader.failures(), reader.into_inner())
 }
@@ -260,12 +290,18 @@ pub fn load<'a>(
 pub fn to_text(form: Form, all: bool, store: &CookieStore) -> Result<String, FormatError> {
     let now = new_year();
     match (form, all) {
-        (Form::Json, true) => Ok(json::to_text_incl_expired_and_nonpersistent(store)?),
-        (Form::Json, false) => Ok(json::to_text(store, now)?),
-        (Form::Ron, true) => Ok(ron::to_text_incl_expired_and_nonpersistent(store)?),
-        (Form::Ron, false) => Ok(ron::to_text(store, now)?),
-        (Form::Netscape, true) => { Ok(netscape::to_text_incl_expired_and_nonpersistent(store)?) }
-        (Form::Netscape, false) => Ok(netscape::to_text(store, now)?),
+        (Form::Json, true) => json::to_text_incl_expired_and_nonpersistent(store).map_err(
+            FormatError::Store,
+        ),
+        (Form::Json, false) => json::to_text(store, now).map_err(FormatError::Store),
+        (Form::Ron, true) => ron::to_text_incl_expired_and_nonpersistent(store).map_err(
+            FormatError::Store,
+        ),
+        (Form::Ron, false) => ron::to_text(store, now).map_err(FormatError::Store),
+        (Form::Netscape, true) => netscape::to_text_incl_expired_and_nonpersistent(store).map_err(
+            FormatError::from,
+        ),
+        (Form::Netscape, false) => netscape::to_text(store, now).map_err(FormatError::from),
         (Form::WellFormed, _) => representable(store, all),
         (Form::As(format), _) => serde::to_text_as(store, format, saved(all)),
     }
@@ -287,12 +323,14 @@ pub fn from_text(
 ) -> Result<CookieStore, FormatError> {
     let now = new_year();
     match (form, all) {
-        (Form::Json, true) => Ok(json::from_text_all(alloc, text, now)?),
-        (Form::Json, false) => Ok(json::from_text(alloc, text, now)?),
-        (Form::Ron, true) => Ok(ron::from_text_all(alloc, text, now)?),
-        (Form::Ron, false) => Ok(ron::from_text(alloc, text, now)?),
-        (Form::Netscape, true) => Ok(netscape::from_text_all(alloc, text, now)?),
-        (Form::Netscape, false) => Ok(netscape::from_text(alloc, text, now)?),
+        (Form::Json, true) => json::from_text_all(alloc, text, now).map_err(FormatError::Store),
+        (Form::Json, false) => json::from_text(alloc, text, now).map_err(FormatError::Store),
+        (Form::Ron, true) => ron::from_text_all(alloc, text, now).map_err(FormatError::Store),
+        (Form::Ron, false) => ron::from_text(alloc, text, now).map_err(FormatError::Store),
+        (Form::Netscape, true) => netscape::from_text_all(alloc, text, now).map_err(
+            FormatError::from,
+        ),
+        (Form::Netscape, false) => netscape::from_text(alloc, text, now).map_err(FormatError::from),
         (Form::WellFormed, _) => well_formed(alloc, text, all),
         (Form::As(format), _) => serde::from_text_as(alloc, text, format, loaded(all)),
     }
@@ -324,8 +362,9 @@ pub fn is_saved_as(
     wanted: &str,
 ) {
     let fake = Fake::new(Vec::new(alloc), usize::MAX, 0);
-    let (outcome, _, fake) = save(alloc, shape, true, store, fake);
-    is_equal(rt, &end_of(&outcome), &"done", &shape);
+    let (end, _, fake) = save(alloc, shape, true, store, fake);
+    is_equal(rt, &end, &"done", &shape);
     let text = str::from_utf8(fake.inner.as_slice()).expect(rt, "UTF-8");
     is_text(rt, text, wanted, &shape);
+    drop(fake);
 }

@@ -4,14 +4,12 @@ use crate::built::{UrlAndValue, store_of};
 use crate::checks::{is_equal, is_message};
 use crate::formats::cookie_of;
 use crate::steps::new_year;
-use crate::texts::url;
 use cookie_fakes::Fake;
 use cookie_store::device::Counted;
 use cookie_store::{Bulk, Cookie, CookieStore, Error};
 use std::alloc::Global;
 use std::cell::Cell;
 use std::process::Abort;
-use url::Url;
 
 // The name of the cookie, or an error for one name.
 fn name_of(
@@ -56,7 +54,7 @@ fn is_saved(rt: &impl Abort, alloc: Global, store: &CookieStore, row: &Saved) {
         |cookie| name_of(alloc, &calls, row.0, cookie),
         new_year(),
     );
-    is_message(rt, alloc, &outcome, row.0, row);
+    is_message(rt, alloc, outcome, row.0, row);
     let written = writer.into_inner().inner;
     let result = (written.as_slice(), calls.get());
     is_equal(rt, &result, &(row.1.as_bytes(), row.2), row);
@@ -68,20 +66,20 @@ fn an_error_of_the_function_stops_the_saving(rt: HostRuntime) {
     for row in &SAVED {
         is_saved(&rt, rt.alloc(), &store, row);
     }
+    drop(store);
 }
 
 // A cookie for each line but `b`.
 fn cookie_of_line<'l>(
     alloc: Global,
     calls: &Cell<usize>,
-    url: &Url,
     line: &'l str,
 ) -> Result<Cookie<'l>, Error> {
     calls.set(calls.get().saturating_add(1));
     if line == "b" {
         return Err(Error::Other(String::from_str(alloc, line)?));
     }
-    cookie_of(alloc, "any=1", url)
+    cookie_of(alloc, "any=1")
 }
 
 // Bytes, the number of calls, the bytes left unread, and the message of the error.
@@ -112,24 +110,23 @@ static LOADED: [Loaded; 21] = [
 ];
 
 // Loads with reads of one byte.
-fn is_loaded(rt: &impl Abort, alloc: Global, url: &Url, row: &Loaded) {
+fn is_loaded(rt: &impl Abort, alloc: Global, row: &Loaded) {
     let calls: Cell<usize> = Cell::new(0);
     let mut reader = Counted::new(Fake::new(row.0, 1, 0));
     let outcome: Result<CookieStore, Error> = CookieStore::load(
         alloc,
         &mut reader,
-        |line| cookie_of_line(alloc, &calls, url, line),
+        |line| cookie_of_line(alloc, &calls, line),
         new_year(),
     );
     let result = (calls.get(), reader.into_inner().inner);
     is_equal(rt, &result, &(row.1, row.2), row);
-    is_message(rt, alloc, &outcome, row.3, row);
+    is_message(rt, alloc, outcome, row.3, row);
 }
 
 #[test]
 fn an_error_of_the_function_stops_the_loading(rt: HostRuntime) {
-    let url = url(&rt, rt.alloc(), FROM);
     for row in &LOADED {
-        is_loaded(&rt, rt.alloc(), &url, row);
+        is_loaded(&rt, rt.alloc(), row);
     }
 }

@@ -89,6 +89,7 @@ fn is_known(rt: &impl Abort, alloc: Global, only_listed: bool, wanted: bool) {
         .suffix("np")
         .is_some_and(|suffix: Suffix<'_>| suffix.is_known());
     is_equal(rt, &is_known, &wanted, &only_listed);
+    drop(list);
 }
 
 #[test]

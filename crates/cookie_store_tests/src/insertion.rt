@@ -73,11 +73,12 @@ pub fn set_call(rt: &impl Abort, alloc: Global, from: &str, text: &str) -> Call 
 fn reply_to_call(alloc: Global, store: &mut CookieStore, call: Call) -> InsertResult {
     start(alloc);
     let outcome = store.apply(call);
-    if let Ok(Reply::Stored(reply)) = &outcome {
-        *reply
-    } else {
-        Err(CookieError::Memory)
-    }
+    let reply = match &outcome {
+        Ok(Reply::Stored(reply)) => *reply,
+        _ => Err(CookieError::Memory),
+    };
+    drop(outcome);
+    reply
 }
 
 // Inserts the cookie of a `Set-Cookie` value received from the URL. Only what the call allocates

@@ -1,4 +1,7 @@
 //! Tests of the store.
+//!
+//! A function that owns a store, or another value of many parts, ends with a `drop` of it, for the
+//! checker: a call of `drop` is proved once, and what would be dropped without it in each function.
 #![tactic(auto)]
 
 #[cfg(test)]

@@ -41,6 +41,7 @@ static IN_ORDER: [Step; 19] = [
 fn cookies_match_in_order_at_the_earliest_time(rt: HostRuntime) {
     let mut store = CookieStore::default(rt.alloc());
     take_all(&rt, rt.alloc(), &mut store, &IN_ORDER, DateTime::MIN);
+    drop(store);
 }
 
 const DEEP: &str = "http://www.deep.example/a/b/c";
@@ -94,6 +95,7 @@ static SENT: [Step; 26] = [
 fn longer_paths_are_sent_first(rt: HostRuntime) {
     let mut store = CookieStore::new(rt.alloc());
     take_all(&rt, rt.alloc(), &mut store, &SENT, new_year());
+    drop(store);
 }
 
 // Cookies as they may be loaded: some domains are not a domain name, some paths do not begin with
@@ -266,6 +268,7 @@ static LISTS: [(Form, &str, &[Step]); 2] = [
 fn is_loaded(rt: &impl Abort, alloc: Global, list: &(Form, &'static str, &'static [Step])) {
     let mut store = from_text(alloc, list.0, true, list.1).expect(rt, "a store");
     take_all(rt, alloc, &mut store, list.2, new_year());
+    drop(store);
 }
 
 #[test]

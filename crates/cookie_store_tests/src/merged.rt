@@ -42,6 +42,7 @@ fn is_merged(rt: &impl Abort, alloc: Global, other: &CookieStore, merge: &Merge)
     let counted = merged(&mut store, other, is_strict).expect(rt, "memory");
     is_equal(rt, &counted, &left_out, merge);
     are_listed(rt, alloc, &store, wanted, merge);
+    drop(store);
 }
 
 #[test]
@@ -50,4 +51,5 @@ fn cookies_are_merged_by_the_rules_of_the_store(rt: HostRuntime) {
     for merge in &MERGES {
         is_merged(&rt, rt.alloc(), &other, merge);
     }
+    drop(other);
 }

@@ -2,28 +2,34 @@
 use crate::built::{UrlAndValue, store_of};
 use crate::checks::{is_equal, is_message};
 use crate::formats::{Form, from_text, to_text};
-use cookie_store::CookieStore;
-use cookie_store::serde::Which;
 use cookie_store::serde::netscape::{from_text_well_formed, to_text_representable};
+use cookie_store::serde::{FormatError, Which};
 use std::alloc::Global;
 use std::process::Abort;
 
 const HEAD: &str = "# Netscape HTTP Cookie File";
 
-// Checks what the cookies of the store are written as after the first line, or the message of the
-// error.
-fn is_written(rt: &impl Abort, alloc: Global, store: &CookieStore, wanted: &str, row: &str) {
-    let outcome = to_text(Form::Netscape, true, store);
-    match &outcome {
-        Ok(text) => is_equal(rt, &text.strip_prefix(HEAD), &Some(wanted), &row),
-        Err(_) => is_message(rt, alloc, &outcome, wanted, &row),
+// Checks the text after the first line, or the message of the error.
+fn is_written(
+    rt: &impl Abort,
+    alloc: Global,
+    outcome: Result<String, FormatError>,
+    wanted: &str,
+    row: &str,
+) {
+    if let Ok(text) = &outcome {
+        is_equal(rt, &text.strip_prefix(HEAD), &Some(wanted), &row);
+    } else {
+        is_message(rt, alloc, outcome, wanted, &row);
     }
 }
 
 const FIRST_LINE: &str = "line 1 is not a cookie";
 
 // A file, and what its cookies are written as, or the message of the error.
-static READ: [(&str, &str); 48] = [
+type Read = (&'static str, &'static str);
+
+static READ: [Read; 18] = [
     ("", ""),
     ("\n \t\r\n# a\n#\ta\n#HttpOnly\n", ""),
     // Host-only and domain cookies, with and without a dot.
@@ -96,6 +102,9 @@ static READ: [(&str, &str); 48] = [
         "a.com\tFALSE\t/\tFALSE\t0\t\u{e9} #\t=\"\u{1f36a}\"\n",
         "\na.com\tFALSE\t/\tFALSE\t0\t\u{e9} #\t=\"\u{1f36a}\"",
     ),
+];
+
+static FROM_OTHER_PROGRAMS: [Read; 9] = [
     // What other programs write: white space around a line, `$`, IPv6 addresses, ports, `.local`,
     // paths, -1 and Unicode white space.
     (
@@ -135,6 +144,9 @@ static READ: [(&str, &str); 48] = [
         "Set-Cookie: a=1; Domain=a.com\tTRUE\t/\tFALSE\t0\ta\t1\n",
         "\n.set-cookie: a=1; domain=a.com\tTRUE\t/\tFALSE\t0\ta\t1",
     ),
+];
+
+static MALFORMED: [Read; 21] = [
     // Malformed lines: fields, domains, flags, paths, expiries, names and values.
     ("a.com\n", FIRST_LINE),
     (
@@ -162,19 +174,32 @@ static READ: [(&str, &str); 48] = [
     ("a.com\tFALSE\t/\tFALSE\t0\ta\t1\r1\n", FIRST_LINE),
 ];
 
-fn is_read(rt: &impl Abort, alloc: Global, read: &(&str, &str)) {
-    let outcome = from_text(alloc, Form::Netscape, true, read.0);
-    match &outcome {
-        Ok(store) => is_written(rt, alloc, store, read.1, read.0),
-        Err(_) => is_message(rt, alloc, &outcome, read.1, &read.0),
+fn rewritten(alloc: Global, file: &str) -> Result<String, FormatError> {
+    let store = from_text(alloc, Form::Netscape, true, file)?;
+    let text = to_text(Form::Netscape, true, &store);
+    drop(store);
+    text
+}
+
+fn are_read(rt: &impl Abort, alloc: Global, files: &[Read]) {
+    for (file, wanted) in files {
+        is_written(rt, alloc, rewritten(alloc, file), wanted, file);
     }
 }
 
 #[test]
 fn files_are_read(rt: HostRuntime) {
-    for read in &READ {
-        is_read(&rt, rt.alloc(), read);
-    }
+    are_read(&rt, rt.alloc(), &READ);
+}
+
+#[test]
+fn files_of_other_programs_are_read(rt: HostRuntime) {
+    are_read(&rt, rt.alloc(), &FROM_OTHER_PROGRAMS);
+}
+
+#[test]
+fn malformed_lines_are_rejected(rt: HostRuntime) {
+    are_read(&rt, rt.alloc(), &MALFORMED);
 }
 
 const UNREPRESENTABLE: &str = "cookies.txt cannot represent a cookie";
@@ -222,11 +247,22 @@ static WRITTEN: [(&[UrlAndValue], &str); 9] = [
     (&[("http://.a.com/", "a=1")], UNREPRESENTABLE),
 ];
 
+fn are_written(rt: &impl Abort, alloc: Global, cookies: &[UrlAndValue], wanted: &str) {
+    let store = store_of(rt, alloc, cookies);
+    is_written(
+        rt,
+        alloc,
+        to_text(Form::Netscape, true, &store),
+        wanted,
+        wanted,
+    );
+    drop(store);
+}
+
 #[test]
 fn cookies_are_written(rt: HostRuntime) {
     for written in &WRITTEN {
-        let store = store_of(&rt, rt.alloc(), written.0);
-        is_written(&rt, rt.alloc(), &store, written.1, written.1);
+        are_written(&rt, rt.alloc(), written.0, written.1);
     }
 }
 
@@ -250,8 +286,10 @@ static SALVAGED: [Salvaged; 3] = [
 
 fn is_salvaged(rt: &impl Abort, alloc: Global, salvaged: &Salvaged) {
     let loaded = from_text_well_formed(alloc, salvaged.0, Which::All).expect(rt, "memory");
-    is_written(rt, alloc, &loaded.store, salvaged.1, salvaged.0);
+    let text = to_text(Form::Netscape, true, &loaded.store);
+    is_written(rt, alloc, text, salvaged.1, salvaged.0);
     is_equal(rt, &loaded.malformed.as_slice(), &salvaged.2, salvaged);
+    drop(loaded);
 }
 
 // Cookies, what those are written as that the format can represent, and how many it cannot.
@@ -275,6 +313,7 @@ fn is_represented(rt: &impl Abort, alloc: Global, row: &Representable) {
     let file = to_text_representable(&store, Which::All).expect(rt, "memory");
     is_equal(rt, &file.text.strip_prefix(HEAD), &Some(row.1), row);
     is_equal(rt, &file.left_out, &row.2, row);
+    drop(store);
 }
 
 #[test]

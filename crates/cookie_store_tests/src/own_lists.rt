@@ -129,4 +129,5 @@ fn cookies_are_found_in_lists(rt: HostRuntime) {
     for wanted in &FOUND {
         are_found(&rt, rt.alloc(), groups.as_slice(), wanted);
     }
+    drop(groups);
 }

@@ -1,13 +1,11 @@
 //! Input that is not of its format.
 use crate::checks::is_message;
 use crate::formats::{Form, Shape, from_text, load};
-use crate::saved_files::{FROM, JSON as JSON_LIST, RON as RON_FILE};
-use crate::texts::url;
+use crate::saved_files::{JSON as JSON_LIST, RON as RON_FILE};
 use cookie_fakes::Fake;
 use cookie_store::serde::Format;
 use std::alloc::Global;
 use std::process::Abort;
-use url::Url;
 
 const LINES: Shape = Shape::JsonLines;
 
@@ -30,7 +28,7 @@ const UTF_8: &str = "the input is not UTF-8";
 // A format, bytes, and the message of the error, empty for those that are loaded.
 type Input = (Shape, &'static [u8], &'static str);
 
-static INPUTS: [Input; 86] = [
+static JSON_LINES: [Input; 15] = [
     (LINES, b"{\n", JSON),
     (LINES, b"\n", JSON),
     (LINES, b"[\n{}\n]\n", JSON),
@@ -69,6 +67,30 @@ static INPUTS: [Input; 86] = [
         br#"{"domain":"Empty","expires":"SessionEnd","path":["/",true],"raw_cookie":"a=1","x":1}"#,
         "",
     ),
+    // what another format accepts
+    (
+        LINES,
+        br#"[
+  {
+    "domain": {
+      "HostOnly": "test.com"
+    },
+    "expires": {
+      "AtUtc": "2100-08-03T00:38:37Z"
+    },
+    "path": [
+      "/",
+      true
+    ],
+    "raw_cookie": "2=two; SameSite=None; Secure; Path=/; Expires=Tue, 03 Aug 2100 00:38:37 GMT"
+  }
+]
+"#,
+        JSON,
+    ),
+];
+
+static JSON_LISTS: [Input; 22] = [
     (LIST, b"", JSON),
     (LIST, b"\n", JSON),
     (LIST, b"[", JSON),
@@ -117,6 +139,16 @@ static INPUTS: [Input; 86] = [
         "",
     ),
     (LIST, b" [ ] ", ""),
+    // what another format accepts
+    (
+        LIST,
+        br#"{"domain":"Empty","expires":"SessionEnd","path":["/",true],"raw_cookie":"a=1"}"#,
+        SHAPE,
+    ),
+];
+
+// Lists in RON: what is no list, and values.
+static RON_VALUES: [Input; 21] = [
     (RON_LIST, b"", RON),
     (RON_LIST, b"\n", RON),
     (RON_LIST, b"[", RON),
@@ -175,6 +207,10 @@ static INPUTS: [Input; 86] = [
     ),
     (RON_LIST, b" [ ] ", ""),
     (RON_LIST, b"[(raw_cookie: \"\xc3", UTF_8),
+];
+
+// Lists in RON with strings and members of another form, and other white space.
+static RON_MEMBERS: [Input; 10] = [
     (
         RON_LIST,
         br#"[(raw_cookie: r"a=1", path: ("/", true), domain: Empty, expires: SessionEnd)]"#,
@@ -226,48 +262,9 @@ static INPUTS: [Input; 86] = [
         b"[\r\n(raw_cookie:\"a=1\",\r\npath:(\"/\",true),\r\ndomain:Empty,\r\nexpires:SessionEnd)\r\n]\r\n",
         "",
     ),
-    // what another format accepts
-    (
-        LIST,
-        br#"{"domain":"Empty","expires":"SessionEnd","path":["/",true],"raw_cookie":"a=1"}"#,
-        SHAPE,
-    ),
-    (
-        LINES,
-        br#"[
-  {
-    "domain": {
-      "HostOnly": "test.com"
-    },
-    "expires": {
-      "AtUtc": "2100-08-03T00:38:37Z"
-    },
-    "path": [
-      "/",
-      true
-    ],
-    "raw_cookie": "2=two; SameSite=None; Secure; Path=/; Expires=Tue, 03 Aug 2100 00:38:37 GMT"
-  }
-]
-"#,
-        JSON,
-    ),
-    (Shape::Pairs, b"a=1|b", COOKIE),
-    (Shape::Pairs, b"a=1\xff", UTF_8),
-    (Shape::File(Form::As(Format::Json)), b"a", JSON),
-    (Shape::File(Form::As(Format::Ron)), b"a", RON),
-    (
-        Shape::File(Form::As(Format::Netscape)),
-        b"# a\na\n",
-        "line 2 is not a cookie",
-    ),
-    (
-        Shape::File(Form::As(Format::Netscape)),
-        b"\xef\xbb\xbf\n",
-        "line 1 is not a cookie",
-    ),
-    (Shape::File(Form::Netscape), b"\xff", UTF_8),
-    (Shape::File(Form::WellFormed), b"\xff", UTF_8),
+];
+
+static MIGRATED: [Input; 10] = [
     (Shape::Migrated, b"", ""),
     (
         Shape::Migrated,
@@ -315,11 +312,30 @@ static INPUTS: [Input; 86] = [
     (Shape::Migrated, b"\xff\n", "line 1: the input is not UTF-8"),
 ];
 
+static OTHER_INPUTS: [Input; 8] = [
+    (Shape::Pairs, b"a=1|b", COOKIE),
+    (Shape::Pairs, b"a=1\xff", UTF_8),
+    (Shape::File(Form::As(Format::Json)), b"a", JSON),
+    (Shape::File(Form::As(Format::Ron)), b"a", RON),
+    (
+        Shape::File(Form::As(Format::Netscape)),
+        b"# a\na\n",
+        "line 2 is not a cookie",
+    ),
+    (
+        Shape::File(Form::As(Format::Netscape)),
+        b"\xef\xbb\xbf\n",
+        "line 1 is not a cookie",
+    ),
+    (Shape::File(Form::Netscape), b"\xff", UTF_8),
+    (Shape::File(Form::WellFormed), b"\xff", UTF_8),
+];
+
 // Checks the error of loading the bytes.
-fn is_loaded(rt: &impl Abort, alloc: Global, url: &Url, input: &Input) {
+fn is_loaded(rt: &impl Abort, alloc: Global, input: &Input) {
     let fake = Fake::new(input.1, 9, 0);
-    let (outcome, _, _) = load(rt, alloc, input.0, true, url, fake);
-    is_message(rt, alloc, &outcome, input.2, input);
+    let (outcome, _, _) = load(rt, alloc, input.0, true, fake);
+    is_message(rt, alloc, outcome, input.2, input);
 }
 
 // The same for a string, if the bytes are one of a list or file.
@@ -329,13 +345,42 @@ fn is_parsed(rt: &impl Abort, alloc: Global, input: &Input) {
     }
 }
 
-#[test]
-fn input_in_another_form_is_rejected(rt: HostRuntime) {
-    let url = url(&rt, rt.alloc(), FROM);
-    for input in &INPUTS {
-        is_loaded(&rt, rt.alloc(), &url, input);
-        is_parsed(&rt, rt.alloc(), input);
+// Checks the errors of the inputs.
+fn are_loaded(rt: &impl Abort, alloc: Global, inputs: &[Input]) {
+    for input in inputs {
+        is_loaded(rt, alloc, input);
+        is_parsed(rt, alloc, input);
     }
+}
+
+#[test]
+fn lines_in_another_form_are_rejected(rt: HostRuntime) {
+    are_loaded(&rt, rt.alloc(), &JSON_LINES);
+}
+
+#[test]
+fn a_json_list_in_another_form_is_rejected(rt: HostRuntime) {
+    are_loaded(&rt, rt.alloc(), &JSON_LISTS);
+}
+
+#[test]
+fn a_ron_list_of_other_values_is_rejected(rt: HostRuntime) {
+    are_loaded(&rt, rt.alloc(), &RON_VALUES);
+}
+
+#[test]
+fn a_ron_list_of_other_members_is_rejected(rt: HostRuntime) {
+    are_loaded(&rt, rt.alloc(), &RON_MEMBERS);
+}
+
+#[test]
+fn lines_that_cannot_migrate_are_rejected(rt: HostRuntime) {
+    are_loaded(&rt, rt.alloc(), &MIGRATED);
+}
+
+#[test]
+fn input_of_other_formats_is_rejected(rt: HostRuntime) {
+    are_loaded(&rt, rt.alloc(), &OTHER_INPUTS);
 }
 
 // A format, what is nested 50,000 times, and the error: no input drives the parser deep.
@@ -349,7 +394,7 @@ static DEEP: [(Form, &str, &str); 4] = [
 // Checks the error of the string.
 fn is_rejected(rt: &impl Abort, alloc: Global, form: Form, text: &str, error: &str, row: &str) {
     let outcome = from_text(alloc, form, true, text);
-    is_message(rt, alloc, &outcome, error, &row);
+    is_message(rt, alloc, outcome, error, &row);
 }
 
 #[test]

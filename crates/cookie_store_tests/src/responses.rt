@@ -92,6 +92,7 @@ fn is_stored(rt: &impl Abort, alloc: Global, logger: &impl Log, case: &Case) {
     outcome.expect(rt, "memory");
     let wanted = ("https://a.com/", case.1);
     are_given(rt, alloc, &store, wanted, new_year(), &case.1);
+    drop(store);
 }
 
 // Checks that a log line is this string at the level debug, without the value of a Secure cookie.

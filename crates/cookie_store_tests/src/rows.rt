@@ -92,4 +92,5 @@ fn stored_cookies_are_found_and_removed(rt: HostRuntime) {
     is_equal(&rt, &store.remove_expired(now), &2, &now);
     store.retain(|cookie| cookie.name() != "s");
     are_counted(&rt, &store, now, (0, 0));
+    drop(store);
 }

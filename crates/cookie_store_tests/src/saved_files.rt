@@ -189,7 +189,7 @@ const LASTING_NETSCAPE: &str = "# Netscape HTTP Cookie File\n\
 // A format, cookies, and what they are saved as: all, and the persistent ones.
 pub type File = (Shape, &'static [UrlAndValue], &'static str, &'static str);
 
-pub static FILES: [File; 13] = [
+static FILES: [File; 13] = [
     (Shape::Values, &RECEIVED, VALUES, VALUES),
     (Shape::Pairs, &RECEIVED, PAIRS, PAIRS),
     (Shape::JsonLines, &OF_TWO_HOSTS, LINES, LASTING_LINES),
@@ -229,6 +229,10 @@ pub static FILES: [File; 13] = [
         LASTING_NETSCAPE,
     ),
 ];
+
+pub fn files() -> &'static [File] {
+    &FILES
+}
 
 // What all cookies of the file are saved as, or the persistent ones.
 pub fn text_in(file: &File, all: bool) -> &'static str {

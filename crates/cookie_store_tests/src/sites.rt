@@ -139,6 +139,7 @@ fn is_sent(rt: &impl Abort, alloc: Global, sent: &Sent) {
     let store = store_of(rt, alloc, sent.0);
     let url = url(rt, alloc, sent.1);
     has_cookies(rt, alloc, &store, &url, sent);
+    drop(store);
 }
 
 #[test]
@@ -236,6 +237,7 @@ fn a_url_has_a_site_and_a_root(rt: HostRuntime) {
     for row in &SITES {
         has_site(&rt, rt.alloc(), &list, row);
     }
+    drop(list);
 }
 
 // Two URLs, and whether they are same-site with the list and without one.
@@ -284,6 +286,7 @@ fn urls_are_same_site_with_a_list(rt: HostRuntime) {
     for pair in &PAIRS {
         are_same_site(&rt, rt.alloc(), &store, pair);
     }
+    drop(store);
 }
 
 #[test]
@@ -292,6 +295,7 @@ fn urls_are_same_site_without_a_list(rt: HostRuntime) {
     for pair in &PAIRS {
         are_same_site(&rt, rt.alloc(), &store, pair);
     }
+    drop(store);
 }
 
 // A string, a number of shards, and the shard of the string. The hashes are those that the authors

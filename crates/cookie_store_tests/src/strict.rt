@@ -36,6 +36,12 @@ const MISMATCH: StrictResult = Err(StrictError::Cookie(CookieError::DomainMismat
 
 const PREFIX: StrictResult = Err(StrictError::Prefix);
 
+const CONTROL_CHARACTER: StrictResult = Err(StrictError::ControlCharacter);
+
+const INSECURE_URL: StrictResult = Err(StrictError::InsecureUrl);
+
+const SECURE_STORED: StrictResult = Err(StrictError::SecureStored);
+
 // Stored cookies.
 const NONE: &[UrlAndValue] = &[];
 
@@ -58,33 +64,24 @@ type Case = (
     StrictResult,
 );
 
-static CASES: [Case; 104] = [
-    (NONE, SECURE, "a=b\0c", Err(StrictError::ControlCharacter)),
-    (NONE, SECURE, "a=b\x01c", Err(StrictError::ControlCharacter)),
-    (NONE, SECURE, "a=b\x08c", Err(StrictError::ControlCharacter)),
+// Control characters, and header values without a name or a value.
+static HEADER_VALUES: [Case; 20] = [
+    (NONE, SECURE, "a=b\0c", CONTROL_CHARACTER),
+    (NONE, SECURE, "a=b\x01c", CONTROL_CHARACTER),
+    (NONE, SECURE, "a=b\x08c", CONTROL_CHARACTER),
     (NONE, SECURE, "a=b\tc", INSERTED),
-    (NONE, SECURE, "a=b\nc", Err(StrictError::ControlCharacter)),
-    (NONE, SECURE, "a=b\x0bc", Err(StrictError::ControlCharacter)),
-    (NONE, SECURE, "a=b\rc", Err(StrictError::ControlCharacter)),
-    (NONE, SECURE, "a=b\x1fc", Err(StrictError::ControlCharacter)),
+    (NONE, SECURE, "a=b\nc", CONTROL_CHARACTER),
+    (NONE, SECURE, "a=b\x0bc", CONTROL_CHARACTER),
+    (NONE, SECURE, "a=b\rc", CONTROL_CHARACTER),
+    (NONE, SECURE, "a=b\x1fc", CONTROL_CHARACTER),
     (NONE, SECURE, "a=b c", INSERTED),
     (NONE, SECURE, "a=b~c", INSERTED),
-    (NONE, SECURE, "a=b\x7fc", Err(StrictError::ControlCharacter)),
+    (NONE, SECURE, "a=b\x7fc", CONTROL_CHARACTER),
     (NONE, SECURE, "a=b\u{80}c", INSERTED),
-    (NONE, SECURE, "a\x01=b", Err(StrictError::ControlCharacter)),
-    (
-        NONE,
-        SECURE,
-        "a=b; Path=/\x01",
-        Err(StrictError::ControlCharacter),
-    ),
-    (
-        NONE,
-        SECURE,
-        "a=b; other=\x1f",
-        Err(StrictError::ControlCharacter),
-    ),
-    (NONE, SECURE, "a\n", Err(StrictError::ControlCharacter)),
+    (NONE, SECURE, "a\x01=b", CONTROL_CHARACTER),
+    (NONE, SECURE, "a=b; Path=/\x01", CONTROL_CHARACTER),
+    (NONE, SECURE, "a=b; other=\x1f", CONTROL_CHARACTER),
+    (NONE, SECURE, "a\n", CONTROL_CHARACTER),
     (
         NONE,
         SECURE,
@@ -100,9 +97,15 @@ static CASES: [Case; 104] = [
     (
         NONE,
         SECURE,
-        "a=b; Domain=other.example",
-        Err(StrictError::Cookie(CookieError::DomainMismatch)),
+        "\t=1",
+        Err(StrictError::Cookie(CookieError::Parse)),
     ),
+    (NONE, SECURE, "\u{a0}=1", INSERTED),
+];
+
+// Domain, HttpOnly and Max-Age.
+static ATTRIBUTES: [Case; 18] = [
+    (NONE, SECURE, "a=b; Domain=other.example", MISMATCH),
     (
         NONE,
         SECURE,
@@ -127,29 +130,39 @@ static CASES: [Case; 104] = [
         "a=b; Secure; Max-Age=0",
         Err(StrictError::Cookie(CookieError::Expired)),
     ),
-    (
-        NONE,
-        PLAIN,
-        "a=b; Secure; Domain=other.example",
-        Err(StrictError::Cookie(CookieError::DomainMismatch)),
-    ),
+    (NONE, PLAIN, "a=b; Secure; Domain=other.example", MISMATCH),
     (
         NONE,
         PLAIN,
         "__Host-a=b; Domain=example",
         Err(StrictError::Cookie(CookieError::PublicSuffix)),
     ),
-    (NONE, SECURE, "a=b; Secure", INSERTED),
-    (NONE, PLAIN, "a=b; Secure", Err(StrictError::InsecureUrl)),
-    (NONE, LOCAL, "a=b; Secure", INSERTED),
-    (NONE, LOOPBACK, "a=b; Secure", INSERTED),
+    (NONE, SECURE, "a=1; Domain=. site.example", MISMATCH),
+    (NONE, SECURE, "a=1; Domain=.\tsite.example", MISMATCH),
+    (NONE, SECURE, "a=1; Domain=site.example\u{a0}", MISMATCH),
+    (NONE, SECURE, "a=1; Domain=\u{a0}site.example", MISMATCH),
+    (NONE, SECURE, "a=1; Domain=s\u{ec}te.example", MISMATCH),
+    (NONE, SECURE, "a=1; Domain=site.\u{ff45}xample", MISMATCH),
+    (NONE, SECURE, "a=1; Domain=SITE.example", INSERTED),
+    (NONE, SECURE, "a=1; Domain=other.example; Domain=", INSERTED),
+    (NONE, SECURE, "a=1; Domain=.", INSERTED),
+    (NONE, SECURE, "a=1; Max-Age=0\u{a0}", INSERTED),
     (
         NONE,
-        PLAIN,
-        "a=b; Secure; SameSite=None",
-        Err(StrictError::InsecureUrl),
+        SECURE,
+        "a=1; Max-Age=-0",
+        Err(StrictError::Cookie(CookieError::Expired)),
     ),
-    (NONE, FTP, "a=b; Secure", Err(StrictError::InsecureUrl)),
+];
+
+// Secure and SameSite.
+static SECURE_AND_SAME_SITE: [Case; 18] = [
+    (NONE, SECURE, "a=b; Secure", INSERTED),
+    (NONE, PLAIN, "a=b; Secure", INSECURE_URL),
+    (NONE, LOCAL, "a=b; Secure", INSERTED),
+    (NONE, LOOPBACK, "a=b; Secure", INSERTED),
+    (NONE, PLAIN, "a=b; Secure; SameSite=None", INSECURE_URL),
+    (NONE, FTP, "a=b; Secure", INSECURE_URL),
     (
         NONE,
         SECURE,
@@ -167,7 +180,21 @@ static CASES: [Case; 104] = [
     (NONE, PLAIN, "a=b; SameSite=Strict", INSERTED),
     (NONE, PLAIN, "a=b; SameSite=unknown", INSERTED),
     (NONE, PLAIN, "a=b; SameSite=None; SameSite=Lax", INSERTED),
-    (NONE, SECURE, "__Secure-a=b", Err(StrictError::Prefix)),
+    (NONE, "http://a.localhost/", "a=1; Secure", INSERTED),
+    (NONE, "http://localhost./", "a=1; Secure", INSERTED),
+    (NONE, "http://a.b.localhost.:8080/", "a=1; Secure", INSERTED),
+    (NONE, "http://alocalhost/", "a=1; Secure", INSECURE_URL),
+    (
+        NONE,
+        "http://localhost.site.example/",
+        "a=1; Secure",
+        INSECURE_URL,
+    ),
+];
+
+// Prefixes of names.
+static PREFIXES: [Case; 30] = [
+    (NONE, SECURE, "__Secure-a=b", PREFIX),
     (NONE, SECURE, "__Secure-a=b; Secure", INSERTED),
     (
         NONE,
@@ -175,31 +202,21 @@ static CASES: [Case; 104] = [
         "__Secure-a=b; Secure; Domain=site.example",
         INSERTED,
     ),
-    (NONE, SECURE, "__secure-a=b", Err(StrictError::Prefix)),
-    (NONE, SECURE, "__SECURE-=b", Err(StrictError::Prefix)),
+    (NONE, SECURE, "__secure-a=b", PREFIX),
+    (NONE, SECURE, "__SECURE-=b", PREFIX),
     (NONE, SECURE, "__Secure=b", INSERTED),
     (NONE, SECURE, "a__Secure-=b", INSERTED),
-    (NONE, PLAIN, "__Secure-a=b", Err(StrictError::Prefix)),
-    (
-        NONE,
-        PLAIN,
-        "__Secure-a=b; Secure",
-        Err(StrictError::InsecureUrl),
-    ),
+    (NONE, PLAIN, "__Secure-a=b", PREFIX),
+    (NONE, PLAIN, "__Secure-a=b; Secure", INSECURE_URL),
     (NONE, SECURE, "__Host-a=b; Secure; Path=/", INSERTED),
-    (NONE, SECURE, "__Host-a=b; Secure", Err(StrictError::Prefix)),
-    (NONE, SECURE, "__Host-a=b; Path=/", Err(StrictError::Prefix)),
-    (
-        NONE,
-        SECURE,
-        "__Host-a=b; Secure; Path=/app",
-        Err(StrictError::Prefix),
-    ),
+    (NONE, SECURE, "__Host-a=b; Secure", PREFIX),
+    (NONE, SECURE, "__Host-a=b; Path=/", PREFIX),
+    (NONE, SECURE, "__Host-a=b; Secure; Path=/app", PREFIX),
     (
         NONE,
         SECURE,
         "__Host-a=b; Secure; Path=/; Domain=site.example",
-        Err(StrictError::Prefix),
+        PREFIX,
     ),
     (
         NONE,
@@ -207,90 +224,9 @@ static CASES: [Case; 104] = [
         "__Host-a=b; Secure; Path=/; Domain=",
         INSERTED,
     ),
-    (
-        NONE,
-        SECURE,
-        "__hOST-a=b; Secure; Path=/app",
-        Err(StrictError::Prefix),
-    ),
-    (NONE, ROOT, "__Host-a=b; Secure", Err(StrictError::Prefix)),
+    (NONE, SECURE, "__hOST-a=b; Secure; Path=/app", PREFIX),
+    (NONE, ROOT, "__Host-a=b; Secure", PREFIX),
     (NONE, SECURE, "__Host=b", INSERTED),
-    (
-        LOGIN,
-        PLAIN,
-        "a=c; Path=/login",
-        Err(StrictError::SecureStored),
-    ),
-    (
-        LOGIN,
-        PLAIN,
-        "a=c; Path=/login/en",
-        Err(StrictError::SecureStored),
-    ),
-    (LOGIN, PLAIN, "a=c; Path=/", INSERTED),
-    (LOGIN, PLAIN, "a=c; Path=/foo", INSERTED),
-    (LOGIN, PLAIN, "a=c; Path=/loginx", INSERTED),
-    (LOGIN, PLAIN, "b=c; Path=/login", INSERTED),
-    (LOGIN, PLAIN, "A=c; Path=/login", INSERTED),
-    (LOGIN, SECURE, "a=c; Path=/login", UPDATED),
-    (
-        LOGIN,
-        PLAIN_WWW,
-        "a=c; Path=/login; Domain=site.example",
-        Err(StrictError::SecureStored),
-    ),
-    (
-        LOGIN,
-        PLAIN_WWW,
-        "a=c; Path=/login",
-        Err(StrictError::SecureStored),
-    ),
-    (
-        WWW,
-        PLAIN,
-        "a=c; Path=/; Domain=site.example",
-        Err(StrictError::SecureStored),
-    ),
-    (WWW, PLAIN, "a=c; Path=/", Err(StrictError::SecureStored)),
-    (WWW, PLAIN_SHOP, "a=c; Path=/", INSERTED),
-    (
-        WWW,
-        PLAIN_SHOP,
-        "a=c; Path=/; Domain=site.example",
-        Err(StrictError::SecureStored),
-    ),
-    (
-        LOGIN,
-        PLAIN,
-        "a=c; Path=/login; Max-Age=0",
-        Err(StrictError::SecureStored),
-    ),
-    (EXPIRED_LOGIN, PLAIN, "a=c; Path=/login", UPDATED),
-    (UNSECURE, PLAIN, "a=c; Path=/login", UPDATED),
-    (UNSECURE, PLAIN, "a=c; Path=/login; Max-Age=0", EXPIRED),
-    (NONE, SECURE, "a=1; Domain=. site.example", MISMATCH),
-    (NONE, SECURE, "a=1; Domain=.\tsite.example", MISMATCH),
-    (NONE, SECURE, "a=1; Domain=site.example\u{a0}", MISMATCH),
-    (NONE, SECURE, "a=1; Domain=\u{a0}site.example", MISMATCH),
-    (NONE, SECURE, "a=1; Domain=s\u{ec}te.example", MISMATCH),
-    (NONE, SECURE, "a=1; Domain=site.\u{ff45}xample", MISMATCH),
-    (NONE, SECURE, "a=1; Domain=SITE.example", INSERTED),
-    (NONE, SECURE, "a=1; Domain=other.example; Domain=", INSERTED),
-    (NONE, SECURE, "a=1; Domain=.", INSERTED),
-    (
-        NONE,
-        SECURE,
-        "\t=1",
-        Err(StrictError::Cookie(CookieError::Parse)),
-    ),
-    (NONE, SECURE, "\u{a0}=1", INSERTED),
-    (NONE, SECURE, "a=1; Max-Age=0\u{a0}", INSERTED),
-    (
-        NONE,
-        SECURE,
-        "a=1; Max-Age=-0",
-        Err(StrictError::Cookie(CookieError::Expired)),
-    ),
     (NONE, ROOT, "__Host-a=1; Secure; Path=", PREFIX),
     (NONE, ROOT, "__Host-a=1; Secure; Path=x", PREFIX),
     (
@@ -318,21 +254,43 @@ static CASES: [Case; 104] = [
         "__Host-Http-a=1; Secure; HttpOnly; Path=/; Domain=site.example",
         PREFIX,
     ),
-    (NONE, "http://a.localhost/", "a=1; Secure", INSERTED),
-    (NONE, "http://localhost./", "a=1; Secure", INSERTED),
-    (NONE, "http://a.b.localhost.:8080/", "a=1; Secure", INSERTED),
+];
+
+// Cookies of the name of a stored one.
+static STORED: [Case; 18] = [
+    (LOGIN, PLAIN, "a=c; Path=/login", SECURE_STORED),
+    (LOGIN, PLAIN, "a=c; Path=/login/en", SECURE_STORED),
+    (LOGIN, PLAIN, "a=c; Path=/", INSERTED),
+    (LOGIN, PLAIN, "a=c; Path=/foo", INSERTED),
+    (LOGIN, PLAIN, "a=c; Path=/loginx", INSERTED),
+    (LOGIN, PLAIN, "b=c; Path=/login", INSERTED),
+    (LOGIN, PLAIN, "A=c; Path=/login", INSERTED),
+    (LOGIN, SECURE, "a=c; Path=/login", UPDATED),
     (
-        NONE,
-        "http://alocalhost/",
-        "a=1; Secure",
-        Err(StrictError::InsecureUrl),
+        LOGIN,
+        PLAIN_WWW,
+        "a=c; Path=/login; Domain=site.example",
+        SECURE_STORED,
     ),
+    (LOGIN, PLAIN_WWW, "a=c; Path=/login", SECURE_STORED),
     (
-        NONE,
-        "http://localhost.site.example/",
-        "a=1; Secure",
-        Err(StrictError::InsecureUrl),
+        WWW,
+        PLAIN,
+        "a=c; Path=/; Domain=site.example",
+        SECURE_STORED,
     ),
+    (WWW, PLAIN, "a=c; Path=/", SECURE_STORED),
+    (WWW, PLAIN_SHOP, "a=c; Path=/", INSERTED),
+    (
+        WWW,
+        PLAIN_SHOP,
+        "a=c; Path=/; Domain=site.example",
+        SECURE_STORED,
+    ),
+    (LOGIN, PLAIN, "a=c; Path=/login; Max-Age=0", SECURE_STORED),
+    (EXPIRED_LOGIN, PLAIN, "a=c; Path=/login", UPDATED),
+    (UNSECURE, PLAIN, "a=c; Path=/login", UPDATED),
+    (UNSECURE, PLAIN, "a=c; Path=/login; Max-Age=0", EXPIRED),
 ];
 
 // A store of the cookies, with a public suffix list.
@@ -346,13 +304,38 @@ fn is_result(rt: &impl Abort, alloc: Global, case: &Case) {
     let url = url(rt, alloc, from);
     let result = parse(&mut store, text, &url, new_year());
     is_equal(rt, &result, &wanted, case);
+    drop(store);
+}
+
+fn are_results(rt: &impl Abort, alloc: Global, cases: &[Case]) {
+    for case in cases {
+        is_result(rt, alloc, case);
+    }
 }
 
 #[test]
-fn cookies_are_inserted_by_the_rules(rt: HostRuntime) {
-    for case in &CASES {
-        is_result(&rt, rt.alloc(), case);
-    }
+fn control_characters_are_rejected(rt: HostRuntime) {
+    are_results(&rt, rt.alloc(), &HEADER_VALUES);
+}
+
+#[test]
+fn attributes_are_read(rt: HostRuntime) {
+    are_results(&rt, rt.alloc(), &ATTRIBUTES);
+}
+
+#[test]
+fn secure_cookies_come_from_secure_urls(rt: HostRuntime) {
+    are_results(&rt, rt.alloc(), &SECURE_AND_SAME_SITE);
+}
+
+#[test]
+fn prefixes_demand_attributes(rt: HostRuntime) {
+    are_results(&rt, rt.alloc(), &PREFIXES);
+}
+
+#[test]
+fn stored_secure_cookies_stay(rt: HostRuntime) {
+    are_results(&rt, rt.alloc(), &STORED);
 }
 
 // A header value, and the cookie that is stored, as a header value.
@@ -400,6 +383,7 @@ fn is_read(rt: &impl Abort, alloc: Global, url: &Url, row: &(&str, &str)) {
     let result = parse(&mut store, row.0, url, new_year());
     is_equal(rt, &result, &INSERTED, row);
     has_value(rt, alloc, &store, row);
+    drop(store);
 }
 
 fn has_value(rt: &impl Abort, alloc: Global, store: &CookieStore, row: &(&str, &str)) {
@@ -459,6 +443,7 @@ fn is_response(rt: &impl Abort, alloc: Global, url: &Url, response: &Response) {
     let mut store = store(rt, alloc, NONE);
     let result = parse_in_context(&mut store, text, url, context, new_year());
     is_equal(rt, &result, &wanted, response);
+    drop(store);
 }
 
 #[test]

@@ -157,6 +157,7 @@ fn are_inserted(rt: &impl Abort, alloc: Global, call: InsertCall, cases: &[Case]
         let mut store = store_of_texts(rt, alloc, &FOUR);
         is_inserted(rt, alloc, call, &mut store, case);
         rejects_by_its_list(rt, alloc, &mut store);
+        drop(store);
     }
 }
 
@@ -180,4 +181,5 @@ static EVICTING: Case = (
 fn a_cookie_is_inserted_under_a_limit(rt: HostRuntime) {
     let mut store = store_of_texts(&rt, rt.alloc(), &FOUR).with_domain_limit(2);
     is_inserted(&rt, rt.alloc(), InsertCall::Parse, &mut store, &EVICTING);
+    drop(store);
 }

@@ -48,7 +48,7 @@ pub fn count_done(
     start(alloc);
     let outcome = store.apply_all(calls);
     let is_ample = end(alloc);
-    match outcome {
+    let done = match &outcome {
         Ok(replies) => {
             is_equal(rt, &replies.len(), &count, &"all calls");
             count
@@ -58,16 +58,22 @@ pub fn count_done(
             is_equal(rt, &counts, &(stopped.count, false), &"the first calls");
             stopped.count
         }
-    }
+    };
+    drop(outcome);
+    done
+}
+
+fn are_executed(rt: &impl Abort, alloc: Global, store: &mut CookieStore) {
+    let count = count_done(rt, alloc, store, calls(rt, alloc));
+    let after = AFTER.get(count).expect(rt, "at most all calls");
+    are_given(rt, alloc, store, (FROM, after), new_year(), &count);
 }
 
 #[test]
 fn calls_are_executed(rt: HostRuntime) {
     let mut store = store_of_texts(&rt, rt.alloc(), &FOUR);
-    let calls = calls(&rt, rt.alloc());
-    let count = count_done(&rt, rt.alloc(), &mut store, calls);
-    let after = AFTER.get(count).expect(&rt, "at most all calls");
-    are_given(&rt, rt.alloc(), &store, (FROM, after), new_year(), &count);
+    are_executed(&rt, rt.alloc(), &mut store);
+    drop(store);
 }
 
 // Checks that the store has the cookies of the response, or the first ones.
@@ -85,6 +91,7 @@ fn are_stored(rt: &impl Abort, alloc: Global, is_strict: bool) {
     let is_ample = end(alloc);
     is_equal(rt, &(outcome.is_ok() || !is_ample), &true, &is_strict);
     has_cookies(rt, alloc, &store, outcome.is_ok());
+    drop(store);
 }
 
 #[test]

@@ -36,18 +36,21 @@ fn many_cookies_are_saved_and_loaded(rt: HostRuntime) {
     for shape in &SHAPES {
         is_long_file(&rt, rt.alloc(), *shape, &store);
     }
+    drop(store);
 }
 
 fn is_json(rt: &impl Abort, alloc: Global, list: &str) {
     let forms = list_from_text(alloc, list).expect(rt, "a list");
     let text = list_to_text(alloc, forms.as_slice()).expect(rt, "memory");
     is_text(rt, text.as_str(), list.trim_end(), &"JSON");
+    drop(forms);
 }
 
 fn is_ron(rt: &impl Abort, alloc: Global, list: &str) {
     let forms = from_ron(alloc, list).expect(rt, "a list");
     let text = to_ron(alloc, forms.as_slice()).expect(rt, "memory");
     is_text(rt, text.as_str(), list.trim_end(), &"RON");
+    drop(forms);
 }
 
 #[test]

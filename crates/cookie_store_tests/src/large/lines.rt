@@ -24,6 +24,7 @@ fn are_lines(rt: &impl Abort, alloc: Global, file: &str) {
     let cookies = netscape::from_text(alloc, file).expect(rt, "cookies");
     let text = formatted(rt, alloc, cookies.as_slice());
     is_text(rt, text.as_str(), file.trim_end(), &"the file");
+    drop(cookies);
 }
 
 #[test]
@@ -40,7 +41,9 @@ fn is_line(rt: &impl Abort, alloc: Global, cookie: &Cookie<'static>, line: &str)
 
 fn is_read(rt: &impl Abort, alloc: Global, line: &str) {
     let cookie = read_cookie(alloc, line, 1).expect(rt, "a line");
-    is_line(rt, alloc, &cookie.expect(rt, "a cookie"), line);
+    let cookie = cookie.expect(rt, "a cookie");
+    is_line(rt, alloc, &cookie, line);
+    drop(cookie);
 }
 
 // The first cookie, with a value of 100 KB.
@@ -49,6 +52,7 @@ fn is_long_line(rt: &impl Abort, alloc: Global, filler: &str) {
     is_read(rt, alloc, line.as_str());
     let cookie = cookie_of(rt, alloc, 0, filler);
     is_line(rt, alloc, &cookie, line.as_str());
+    drop(cookie);
 }
 
 #[test]
@@ -61,6 +65,7 @@ fn is_form(rt: &impl Abort, alloc: Global, line: &str) {
     let form = from_text(alloc, line).expect(rt, "a cookie");
     let text = to_text(alloc, &form).expect(rt, "memory");
     is_text(rt, text.as_str(), line, &"the line");
+    drop(form);
 }
 
 #[test]
@@ -82,6 +87,7 @@ fn is_put_into(rt: &impl Abort, alloc: Global, file_of_all: &str, number: usize,
     let cookie = cookie_of(rt, alloc, number, "");
     let wanted = file(rt, alloc, NETSCAPE, end);
     is_put(rt, alloc, file_of_all, &cookie, Ok(wanted.as_str()));
+    drop(cookie);
 }
 
 #[test]
@@ -102,4 +108,5 @@ fn lines_of_a_long_file_are_retained(rt: HostRuntime) {
     let count = COOKIES / 2;
     let store = store_of_first(&rt, rt.alloc(), count);
     are_retained(&rt, rt.alloc(), count, &store);
+    drop(store);
 }

@@ -54,6 +54,7 @@ fn a_store_of_many_is_cloned_and_gets_a_hash_key(rt: HostRuntime) {
     let state = RandomState::new(&rt).expect(&rt, "random bytes");
     let mut store = store_of_first(&rt, rt.alloc(), COOKIES);
     is_cloned_and_keyed(&rt, rt.alloc(), &mut store, HashKey::Random(state));
+    drop(store);
 }
 
 fn has_lines(rt: &impl Abort, alloc: Global, store: &CookieStore) {
@@ -66,6 +67,7 @@ fn are_merged(rt: &impl Abort, alloc: Global, other: &CookieStore, is_strict: bo
     let left_out = merged(&mut store, other, is_strict).expect(rt, "memory");
     is_equal(rt, &left_out, &0, &is_strict);
     has_lines(rt, alloc, &store);
+    drop(store);
 }
 
 #[test]
@@ -73,6 +75,7 @@ fn a_store_of_many_is_merged(rt: HostRuntime) {
     let other = store_of_first(&rt, rt.alloc(), COOKIES);
     are_merged(&rt, rt.alloc(), &other, false);
     are_merged(&rt, rt.alloc(), &other, true);
+    drop(other);
 }
 
 fn items(rt: &impl Abort, alloc: Global) -> Vec<Item> {
@@ -112,6 +115,7 @@ fn many_calls_are_executed(rt: HostRuntime) {
     let count = count_done(&rt, rt.alloc(), &mut store, calls(&rt, rt.alloc()));
     is_equal(&rt, &count, &COOKIES, &"the calls");
     has_lines(&rt, rt.alloc(), &store);
+    drop(store);
 }
 
 static REQUESTS: [Request; 7] = [
@@ -151,6 +155,7 @@ fn are_stored(rt: &impl Abort, alloc: Global, is_strict: bool, lines: &str, head
     let mut store = CookieStore::new(alloc);
     stores_lines(rt, alloc, is_strict, &mut store, lines);
     are_returned(rt, alloc, &store, header);
+    drop(store);
 }
 
 fn have_sixty(rt: &impl Abort, alloc: Global, filler: &str) {

@@ -79,6 +79,7 @@ fn is_inserted(rt: &impl Abort, alloc: Global, page: &str, long: &Long) {
     let reply = reply_by(rt, alloc, long.0, &mut store, text.as_str(), &url);
     is_equal(rt, &reply, &long.4, long);
     has_cookie(rt, &store, long);
+    drop(store);
 }
 
 #[test]
@@ -133,6 +134,8 @@ fn a_long_list_is_parsed_and_cloned(rt: HostRuntime) {
     has_rules(&rt, &copy, false);
     let list = list.with_default_rule().expect(&rt, "memory");
     has_rules(&rt, &list, true);
+    drop(copy);
+    drop(list);
 }
 
 #[test]
@@ -140,4 +143,5 @@ fn a_long_file_of_a_list_is_parsed(rt: HostRuntime) {
     let rules = rules(&rt, rt.alloc());
     let list = parse_suffixes(rt.alloc(), rules.as_str(), false).expect(&rt, "a list");
     has_rules(&rt, &list, true);
+    drop(list);
 }

@@ -3,4 +3,4 @@ use Rattle.durable_table.specs.Changes.{HasRowid}
 use Rattle.cookie_parts_tests.proofs.transactions.changes.Given as goal
 
 abbrev pub invariant-loop-id : goal.invariant-loop-id
-invariant-loop-id l = All HasRowid l.changes.items
+invariant-loop-id g l = All HasRowid l.changes.items
