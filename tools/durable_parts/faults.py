@@ -7,7 +7,7 @@ import tempfile
 from typing import NamedTuple
 
 from durable_parts.calls import LONG, Call, Cookies, History, cookies_of, random_calls
-from durable_parts.session import NAME, Failed, check_prefix, check_replies, check_whole, mapped, run
+from durable_parts.session import NAME, Failed, check_prefix, check_replies, check_whole, copy_open, mapped, run
 from durable_parts.shim import events, preloaded
 
 EIO, ENOSPC = 5, 28
@@ -29,8 +29,8 @@ class Fault(NamedTuple):
     may_succeed: bool = False
 
 
-BROKEN = r'NotWritten\((Io|Corrupt)\)|File\(Io\)|System\(Uncategorized\)'
-FULL = r'NotWritten\(Full\)|File\((Io|Full)\)|System\(StorageFull\)'
+BROKEN = r'NotWritten\((Io|Corrupt)\)|File\(Io\)|System\(Uncategorized\)|Io|Corrupt'  # the last two by `close`
+FULL = r'NotWritten\(Full\)|File\((Io|Full)\)|System\(StorageFull\)|Full'
 FAULTS = [
     Fault('EIO', 'FAIL_CALL', {'FAIL_KINDS': 'rwcs', 'FAIL_ERROR': EIO}, BROKEN),
     Fault('EIO from then on', 'FAIL_CALL', {'FAIL_KINDS': 'rwcs', 'FAIL_ERROR': EIO, 'FAIL_LATER': 1}, BROKEN),
@@ -92,14 +92,14 @@ class Turns:
 
 
 def calls_before_copy(program, library, folder, calls):
-    """How many calls are acknowledged before the log is copied into the database file."""
+    """How many calls are acknowledged before the log is copied into the database file, which comes before the program closes it."""
     with tempfile.TemporaryDirectory(dir=folder) as room:
         record = f'{room}.record'
         run(program, room, calls, preloaded(library, room, CALLS_RECORD=record))
         acknowledged = 0
         for event in events(record):
             acknowledged += event.call == 'print'
-            if acknowledged and event.call == 'write' and event.name == NAME:
+            if 0 < acknowledged < len(calls) and event.call == 'write' and event.name == NAME:
                 return acknowledged
     raise Failed(f'the log is not copied into the database file in {len(calls)} calls')
 
@@ -109,8 +109,7 @@ def near_copy(program, library, folder, rng):
     calls = random_calls(rng, MANY)
     first = calls_before_copy(program, library, folder, calls) - NEAR
     history, base = History(Cookies(), calls[:first]), f'{folder}/base'
-    os.mkdir(base)
-    check_whole(history, run(program, base, history.calls))
+    copy_open(program, history, base)
     return Turns(program, library, folder, calls[first:first + NEAR + FEW], base, history.states[-1])
 
 

@@ -1,16 +1,16 @@
-"""Files that the program must not open, damaged files, and the mode of a new file."""
+"""Files that the program must not open, damaged files, a file that it has closed, and the mode of a new one."""
 import os
 import random
 import re
 import shutil
 import sqlite3
-import subprocess
 import sys
 import tempfile
-from contextlib import closing, contextmanager
+from contextlib import closing
 
 from durable_parts.calls import Call, Cookies, History, listing, random_calls
-from durable_parts.session import FILES, NAME, Failed, calls_done, check_whole, file_of, mapped, rows_by_sqlite, run, text_of
+from durable_parts.session import (
+    FILES, NAME, Failed, calls_done, check_whole, copy_open, file_of, mapped, opened, rows_by_sqlite, run, text_of)
 
 CALLS = 60
 ONE = [Call('set', ('a.example', '/', 'another'), '1')]
@@ -110,18 +110,6 @@ def check_error(program, folder, error):
         raise Failed('the program changed a file')
 
 
-@contextmanager
-def opened(command, lines):
-    """A process that has a file open once it has printed a line. It ends with its input."""
-    with subprocess.Popen(command, stdin=subprocess.PIPE, stdout=subprocess.PIPE) as process:
-        assert process.stdin and process.stdout
-        process.stdin.write(lines)
-        process.stdin.flush()
-        process.stdout.readline()
-        yield
-        process.communicate()
-
-
 def is_locked(folder):
     with closing(sqlite3.connect(file_of(folder), timeout=0)) as database:
         try:
@@ -149,8 +137,7 @@ class Files:
         self.program, self.folder, self.rng = program, folder, rng
         self.log, self.database = f'{folder}/log', f'{folder}/database'
         self.history = History(Cookies(), random_calls(rng, CALLS))
-        os.mkdir(self.log)
-        check_whole(self.history, run(program, self.log, self.history.calls))
+        copy_open(program, self.history, self.log)
         shutil.copytree(self.log, self.database)
         rows_by_sqlite(self.database)  # it copies the log into the database file
 
@@ -173,6 +160,13 @@ class Files:
                     raise Failed('sqlite3 opens the file of a program that has it open')
             with opened([sys.executable, '-c', READER, file_of(room)], b''):
                 check_error(self.program, room, 'Locked')
+
+    def check_closed(self):
+        """The program closes its file, which then has all cookies without the log."""
+        with tempfile.TemporaryDirectory(dir=self.folder) as room:
+            check_whole(self.history, run(self.program, room, self.history.calls))
+            os.remove(f'{file_of(room)}-wal')
+            calls_done(rows_by_sqlite(room), self.history.states[-1:], 'sqlite3')
 
     def check_modes(self):
         """The files that the program creates are its owner's alone."""
@@ -218,6 +212,7 @@ class Files:
 def check(program, folder, pool, rng, count):
     files = Files(program, folder, rng)
     files.check_modes()
+    files.check_closed()
     files.check_locks()
     files.check_errors()
     files.check_damage(pool, count)

@@ -150,9 +150,14 @@ class Recorded:
         return sorted(rng.choice(rng.choice(spans)) for _ in range(count))
 
     def copying(self):
-        """The numbers of the events from the first to the last write to a database file that is there, and some later ones."""
+        """The numbers of the events from a write to a database file that is there to some later ones."""
         found = [at for at, event in enumerate(self.events) if at >= EARLY and event.call == 'write' and event.name == NAME]
-        return range(found[0], found[-1] + LATER) if found else range(0)
+        return sorted({later for at in found for later in range(at, at + LATER) if later <= len(self.events)})
+
+    def is_copied_by_call(self):
+        """Whether a call copies the log into the database file, and not only the end of the run."""
+        copies = self.copying()
+        return bool(copies) and sum(event.call == 'print' for event in self.events[:copies[0]]) < len(self.history.calls)
 
     def cuts(self, rng, count):
         """How many calls were acknowledged before each power cut, and the files that it leaves."""
@@ -182,7 +187,7 @@ class Recorded:
 def check(program, library, folder, pool, rng, count):
     """Cuts the power so many times in one run, and again in runs on some of the files that this left. Returns how many times in all."""
     first = Recorded(program, library, folder, {}, History(Cookies(), random_calls(rng, CALLS)))
-    if not first.copying():
+    if not first.is_copied_by_call():
         raise Failed(f'the log is not copied into the database file in {CALLS} calls')
     for files, rows in first.check_cuts(pool, rng, count, AGAIN):
         again = Recorded(program, library, folder, files, History(cookies_of(rows), random_calls(rng, FEW)))

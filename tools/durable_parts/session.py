@@ -5,6 +5,7 @@ import shutil
 import sqlite3
 import subprocess
 import tempfile
+from contextlib import contextmanager
 from typing import NamedTuple
 
 from common import ROOT
@@ -53,6 +54,26 @@ def run(program, folder, calls, variables=None):
     except subprocess.TimeoutExpired:
         raise Failed(f'a run took more than {SECONDS} seconds')
     return run_of(done.returncode, done.stdout, done.stderr, calls)
+
+
+@contextmanager
+def opened(command, lines, count=1):
+    """A process that has a file open once it has printed `count` lines, which it gives. It ends with its input."""
+    with subprocess.Popen(command, stdin=subprocess.PIPE, stdout=subprocess.PIPE) as process:
+        assert process.stdin and process.stdout
+        process.stdin.write(lines)
+        process.stdin.flush()
+        yield b''.join(process.stdout.readline() for _ in range(count))
+        process.communicate()
+
+
+def copy_open(program, history, folder):
+    """Makes a folder of the files as they are once the program has executed all calls, and has not closed them."""
+    with tempfile.TemporaryDirectory(dir=os.path.dirname(folder)) as room:
+        with opened([program, file_of(room)], text_of(history.calls), len(history.calls)) as printed:
+            shutil.copytree(room, folder)
+        if check_replies(history, run_of(0, printed, b'', history.calls)) < len(history.calls):
+            raise Failed('the program ends before its input')
 
 
 def check_replies(history, done):

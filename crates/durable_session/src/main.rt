@@ -3,12 +3,12 @@
 //! Each line of standard input is a call: `set URL VALUE`, where `VALUE` is a `Set-Cookie` header
 //! value received from the URL, `remove DOMAIN PATH NAME`, `purge`, which removes expired cookies,
 //! or `clear`. What became of a call is printed once its change is committed. At the end the file
-//! is opened again, as after a crash, and its cookies are printed.
+//! is closed and opened again, and its cookies are printed.
 #![tactic(auto)]
 
 ghost use Rattle.cookie_durable.specs.Durable.{IsInStep};
 
-use cookie_core::{Call, Reply};
+use cookie_core::{Call, CookieStore, Reply};
 use cookie_durable::DurableStore;
 use cookie_parts::StoreAction;
 use jiff::civil::{DateTime, date};
@@ -19,26 +19,47 @@ use std::env;
 use std::test::Fail;
 use url::Url;
 
-/// Executes the calls of standard input. Session cookies are kept, since most logins are.
-fn execute_all(rt: &HostRuntime, file: &str, now: DateTime) -> Result<(), Fail> {
-    let session = DurableStore::open_path(rt, file, true, Unknown)?;
-    execute_lines(rt, session, now)
+/// Executes the calls of standard input, closes the file, and opens it again to print its cookies.
+/// Session cookies are kept, since most logins are.
+fn run(rt: &HostRuntime, path: &str, now: DateTime) -> Result<(), Fail> {
+    let mut session = DurableStore::open_path(rt, path, true, Unknown)?;
+    let executed = execute_lines(rt, &mut session, now);
+    let (file, copied) = session.close();
+    drop(file);
+    executed?;
+    copied?;
+    let session = DurableStore::open_path(rt, path, true, Unknown)?;
+    print_session(rt, session, now)
 }
 
-/// Executes the calls of standard input on an open file.
-fn execute_lines<S: Store + Drop>(
+/// Executes the calls of standard input.
+fn execute_lines<S: Store>(
     rt: &HostRuntime,
-    session: DurableStore<S>,
+    session: &mut DurableStore<S>,
     now: DateTime,
 ) -> Result<(), Fail>
-    requires { IsInStep session (S.Store.view session.file) }
+    requires { IsInStep session.old (S.Store.view session.old.file) }
+    ensures { IsInStep session.new (S.Store.view session.new.file) }
 {
-    let mut session = session;
     for line in rt.lines(rt.alloc()) {
         let line = line?;
-        let outcome = execute(&mut session, rt.alloc(), line.as_str(), now)?;
-        println!(rt; "{outcome}")?;
+        execute_line(rt, session, line.as_str(), now)?;
     }
+    Ok(())
+}
+
+/// Executes the call of a line, and prints what became of it.
+fn execute_line<S: Store>(
+    rt: &HostRuntime,
+    session: &mut DurableStore<S>,
+    line: &str,
+    now: DateTime,
+) -> Result<(), Fail>
+    requires { IsInStep session.old (S.Store.view session.old.file) }
+    ensures { IsInStep session.new (S.Store.view session.new.file) }
+{
+    let outcome = execute(session, rt.alloc(), line, now)?;
+    println!(rt; "{outcome}")?;
     Ok(())
 }
 
@@ -103,19 +124,18 @@ fn text_of(reply: &Reply) -> &'static str {
     }
 }
 
-/// Opens the file and prints its cookies.
-fn print_cookies(rt: &HostRuntime, file: &str, now: DateTime) -> Result<(), Fail> {
-    let session = DurableStore::open_path(rt, file, true, Unknown)?;
-    print_session(rt, session, now)
-}
-
 /// Prints the cookies of an open file.
 fn print_session<S: Store + Drop>(
     rt: &HostRuntime,
     session: DurableStore<S>,
     now: DateTime,
 ) -> Result<(), Fail> {
-    for cookie in session.store().iter_any() {
+    print_store(rt, session.store(), now)
+}
+
+/// Prints the cookies, expired ones too.
+fn print_store(rt: &HostRuntime, store: &CookieStore, now: DateTime) -> Result<(), Fail> {
+    for cookie in store.iter_any() {
         let (domain, path) = (cookie.domain.as_str(), cookie.path.as_str());
         let (name, value) = (cookie.name(), cookie.value());
         let note = if cookie.is_expired(now) {
@@ -130,8 +150,7 @@ fn print_session<S: Store + Drop>(
 
 fn main(rt: HostRuntime) -> Result<(), Fail> {
     let words: Vec<String> = env::args(&rt)?.collect(rt.alloc())?;
-    let file = words.get(1).ok_or("no file is named")?;
+    let path = words.get(1).ok_or("no file is named")?;
     let now = date(2026, 1, 1).at(0, 0, 0, 0);
-    execute_all(&rt, file.as_str(), now)?;
-    print_cookies(&rt, file.as_str(), now)
+    run(&rt, path.as_str(), now)
 }

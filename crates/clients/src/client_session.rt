@@ -1,15 +1,14 @@
 //! A client of one site: it starts with the cookies of an older program, stores those of the site's
 //! responses, returns the `Cookie` header of its requests, and saves its cookies in a file for its
 //! next run.
-#![tactic(auto)]
-
+use crate::urls::url_of;
 use cookie_store::device::Counted;
 use cookie_store::{Bulk, CookieStore, Error, RawCookie, serde};
 use jiff::civil::{DateTime, date};
 use log::Log;
 use std::alloc::Global;
 use std::fs::{self, Files};
-use url::{ParseError, Url};
+use url::Url;
 
 /// The site of the client.
 const SITE: &str = "https://shop.example/";
@@ -89,15 +88,6 @@ impl Session {
     }
 }
 
-/// Parses a URL. An error other than out of memory is returned as its text.
-fn url_of(alloc: Global, text: &str) -> Result<Url, Error> {
-    match Url::parse(alloc, text) {
-        Ok(url) => Ok(url),
-        Err(ParseError::OutOfMemory) => Err(Error::Memory),
-        Err(error) => Err(Error::Other(error.to_string(alloc)?)),
-    }
-}
-
 /// Prints the `Cookie` header, if there is one.
 fn print_header(rt: &HostRuntime, header: Option<String>) -> Result<(), Error> {
     match header {
@@ -127,12 +117,8 @@ fn next_run(rt: &HostRuntime, now: DateTime) -> Result<(), Error> {
 }
 
 /// Runs the client twice.
-fn run(rt: &HostRuntime) -> Result<(), Error> {
+pub fn run(rt: &HostRuntime) -> Result<(), Error> {
     let now = date(2026, 1, 1).at(0, 0, 0, 0);
     first_run(rt, now)?;
     next_run(rt, now)
-}
-
-fn main(rt: HostRuntime) -> Result<(), Error> {
-    run(&rt)
 }

@@ -1,13 +1,12 @@
 //! A crawler of many hosts. It reads a public suffix list from a file, so that no host sets domain
 //! cookies for a public suffix.
-#![tactic(auto)]
-
+use crate::urls::url_of;
 use cookie_store::psl::{List, ListError};
 use cookie_store::{CookieError, CookieStore, Error};
 use jiff::civil::{DateTime, date};
 use std::alloc::Global;
 use std::fs;
-use url::{ParseError, Url};
+use url::Url;
 
 /// The file of the public suffix list.
 const FILE: &str = "suffixes.dat";
@@ -16,7 +15,7 @@ const FILE: &str = "suffixes.dat";
 type Page = (&'static str, &'static [&'static str]);
 
 /// The pages, in the order in which they are visited.
-const PAGES: [Page; 5] = [
+static PAGES: [Page; 5] = [
     (
         "http://example.com/",
         &["seen=1; Domain=example.com", "all=1; Domain=com"],
@@ -72,15 +71,6 @@ fn list_of(alloc: Global, text: &str) -> Result<List, Error> {
     }
 }
 
-/// Parses a URL. An error other than out of memory is returned as its text.
-fn url_of(alloc: Global, text: &str) -> Result<Url, Error> {
-    match Url::parse(alloc, text) {
-        Ok(url) => Ok(url),
-        Err(ParseError::OutOfMemory) => Err(Error::Memory),
-        Err(error) => Err(Error::Other(error.to_string(alloc)?)),
-    }
-}
-
 /// Prints the header of a request for the page.
 fn print_header(
     rt: &HostRuntime,
@@ -108,18 +98,25 @@ fn take_each(
     Ok(())
 }
 
+/// Visits a page: prints the header of the request, and stores the cookies of the response.
+fn visit(
+    rt: &HostRuntime,
+    crawler: &mut Crawler,
+    address: &str,
+    texts: &[&str],
+    now: DateTime,
+) -> Result<(), Error> {
+    let page = url_of(rt.alloc(), address)?;
+    print_header(rt, crawler, &page, now)?;
+    take_each(rt, crawler, texts, &page, now)
+}
+
 /// Visits the pages, one after the other.
-fn run(rt: &HostRuntime) -> Result<(), Error> {
+pub fn run(rt: &HostRuntime) -> Result<(), Error> {
     let now = date(2026, 1, 1).at(0, 0, 0, 0);
     let mut crawler = Crawler::new(rt)?;
     for (address, texts) in &PAGES {
-        let page = url_of(rt.alloc(), address)?;
-        print_header(rt, &crawler, &page, now)?;
-        take_each(rt, &mut crawler, texts, &page, now)?;
+        visit(rt, &mut crawler, address, texts, now)?;
     }
     Ok(())
-}
-
-fn main(rt: HostRuntime) -> Result<(), Error> {
-    run(&rt)
 }

@@ -1,13 +1,12 @@
 //! Loads cookies from bytes in memory, and counts the bytes that saving them writes.
-#![tactic(auto)]
-
 ghost use Rattle.std.specs.Prelude.{None, Some};
 
+use crate::urls::url_of;
 use cookie_store::device::{DeviceFailed, Sink, Source};
 use cookie_store::{Bulk, Cookie, CookieStore, Error};
-use jiff::civil::date;
+use jiff::civil::{DateTime, date};
 use std::alloc::Global;
-use url::{ParseError, Url};
+use url::Url;
 
 /// A source that reads bytes in memory.
 #[derive(Drop)]
@@ -69,37 +68,36 @@ impl Sink for Length {
     }
 }
 
-/// Parses a URL. An error other than out of memory is returned as its text.
-fn url_of(alloc: Global, text: &str) -> Result<Url, Error> {
-    match Url::parse(alloc, text) {
-        Ok(url) => Ok(url),
-        Err(ParseError::OutOfMemory) => Err(Error::Memory),
-        Err(error) => Err(Error::Other(error.to_string(alloc)?)),
-    }
-}
-
-fn run(rt: &HostRuntime) -> Result<(), Error> {
-    let (alloc, now) = (rt.alloc(), date(2026, 1, 1).at(0, 0, 0, 0));
+/// Loads the cookies of two lines in memory.
+fn load(alloc: Global, now: DateTime) -> Result<CookieStore, Error> {
     let site = url_of(alloc, "http://example.com/")?;
     let mut source = Bytes {
         unread: b"a=1; Max-Age=60\nb=2; Max-Age=0\n",
         reads: u64::MAX,
         failures: 0,
     };
-    let store = CookieStore::load(
+    CookieStore::load(
         alloc,
         &mut source,
         |line| Ok(Cookie::parse(alloc, line, &site, now)?),
         now,
-    )?;
+    )
+}
+
+/// Returns how many bytes saving the cookies writes.
+fn saved_len(alloc: Global, store: &CookieStore, now: DateTime) -> Result<u64, Error> {
     let mut length = Length {
         bytes: 0,
         failures: 0,
     };
     store.save(&mut length, |cookie| Ok(cookie.raw().to_text(alloc)?), now)?;
-    println!(rt; "{} bytes", length.bytes).map_err(|_| Error::Io)
+    Ok(length.bytes)
 }
 
-fn main(rt: HostRuntime) -> Result<(), Error> {
-    run(&rt)
+/// Loads cookies, and prints how long they are when saved.
+pub fn run(rt: &HostRuntime) -> Result<(), Error> {
+    let (alloc, now) = (rt.alloc(), date(2026, 1, 1).at(0, 0, 0, 0));
+    let store = load(alloc, now)?;
+    let bytes = saved_len(alloc, &store, now)?;
+    println!(rt; "{bytes} bytes").map_err(|_| Error::Io)
 }
