@@ -49,7 +49,8 @@ class Work(NamedTuple):
         return b''.join(self.output.splitlines(keepends=True)[:count])
 
 
-SCRIPT = Work('a script', [], *parted(HOSTS), True)
+INPUT, OUTPUT = parted(HOSTS)
+SCRIPT = Work('a script', [], INPUT, OUTPUT, True)
 CONVERSION = Work('a conversion', ['--convert'], TWICE, LIST, False)
 
 # What the program does, the kind of calls of which each fails in turn, and the most bytes that one of them moves.

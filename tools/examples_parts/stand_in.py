@@ -72,7 +72,7 @@ def run_script():
         is_open = bool(chunk)
         lines = (text + chunk).split(b'\n')
         text = lines.pop() if is_open else b''
-        for line in filter(None, lines):
+        for line in (line for line in lines if line):
             output += reply(stored, line.decode()).encode()
             if FAULT == 'single':
                 write(output)
