@@ -62,7 +62,9 @@ impl<'r> Runner<'r> {
         list: Option<List>,
     ) -> Result<(), Failure<'a>> {
         let (before, old) = self.load_or_new(file)?;
-        self.set_beside(header, file, &before, old.as_slice(), list)
+        let set = self.set_beside(header, file, &before, old.as_slice(), list);
+        drop(before);
+        set
     }
 
     // The same for a file with these cookies and contents.
@@ -75,10 +77,12 @@ impl<'r> Runner<'r> {
         list: Option<List>,
     ) -> Result<(), Failure<'a>> {
         let store = self.with_cookie(before, list, header)?;
-        match set_cookie(before, &store) {
+        let replaced = match set_cookie(before, &store) {
             Some(cookie) => self.replace(file, after_set(file.format, old, &store, cookie)),
             None => Ok(()),
-        }
+        };
+        drop(store);
+        replaced
     }
 
     // Returns a copy of the store with the cookie of a header value, which a list may reject.
@@ -153,11 +157,24 @@ impl<'r> Runner<'r> {
         removal: Removal<'a>,
     ) -> Result<(), Failure<'a>> {
         let mut store = self.well_formed(file, old)?;
+        let replaced = self.remove_in_store(&mut store, file, old, removal);
+        drop(store);
+        replaced
+    }
+
+    // The same with the cookies that the file has.
+    fn remove_in_store<'a>(
+        &self,
+        store: &mut CookieStore,
+        file: CookieFile<'a>,
+        old: &[u8],
+        removal: Removal<'a>,
+    ) -> Result<(), Failure<'a>> {
         match removal {
-            Removal::One(key) => remove_one(&mut store, file.name, key)?,
-            Removal::Purge(purge) => self.purge(&mut store, purge)?,
+            Removal::One(key) => remove_one(store, file.name, key)?,
+            Removal::Purge(purge) => self.purge(store, purge)?,
         }
-        self.replace(file, after_removal(file.format, old, &store))
+        self.replace(file, after_removal(file.format, old, store))
     }
 
     // Removes the cookies that `purge` names.
@@ -184,10 +201,12 @@ impl<'r> Runner<'r> {
         skips_unrepresentable: bool,
     ) -> Result<(), Failure<'a>> {
         let store = self.load(input)?;
-        match output {
+        let written = match output {
             OutputFile::File(output) => self.write_cookies(output, &store, skips_unrepresentable),
             OutputFile::Sqlite(name) => self.write_rows(name, &store),
-        }
+        };
+        drop(store);
+        written
     }
 
     // Writes cookies to a file. Says how many a `cookies.txt` lacks, and how many lost SameSite.

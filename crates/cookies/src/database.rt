@@ -41,7 +41,10 @@ pub fn finish<D: Disk + Drop>(file: FileStore<D>) {
 /// removed meanwhile, it is created.
 pub fn read_rows(rt: &HostRuntime, name: &str) -> Result<CookieStore, FileError> {
     fs::metadata(rt, name)?;
-    cookies_of(open(rt, name)?)
+    match open(rt, name) {
+        Ok(database) => cookies_of(database),
+        Err(error) => Err(error),
+    }
 }
 
 // Returns a copy of the cookies, and closes the file.

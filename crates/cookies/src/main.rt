@@ -2,6 +2,9 @@
 //!
 //! `cookies --help` lists its commands. The exit status is 0 for success, 1 if the command could not
 //! be done, and 2 for wrong usage.
+//!
+//! A function that owns a store to its end drops it by a call, for the checker: a call of `drop` is
+//! proved once, and what would be dropped without it in each function.
 #![tactic(auto)]
 
 mod arguments;

@@ -66,11 +66,13 @@ impl<'r> Runner<'r> {
 
     fn show<'a>(&self, file: InputFile<'a>, is_json: bool) -> Result<(), Failure<'a>> {
         let store = self.load(file)?;
-        if is_json {
+        let shown = if is_json {
             self.print_list(file.name, &store)
         } else {
             self.print_table(file.name, table(&store, self.now))
-        }
+        };
+        drop(store);
+        shown
     }
 
     // Prints the cookies of a file as a JSON list.
@@ -90,7 +92,9 @@ impl<'r> Runner<'r> {
     ) -> Result<(), Failure<'a>> {
         let list = self.list(suffixes)?;
         let store = self.load(file)?;
-        self.print_header(file.name, &store, list.as_ref(), url, context)
+        let printed = self.print_header(file.name, &store, list.as_ref(), url, context);
+        drop(store);
+        printed
     }
 
     // Prints the header value of a request for cookies of a file.
@@ -139,7 +143,9 @@ impl<'r> Runner<'r> {
         let list = self.list(suffixes)?;
         let list = list.unwrap_or(List::new(self.alloc.alloc));
         let store = self.load(file)?;
-        self.print_explanation(file.name, &store, &list, url, context)
+        let printed = self.print_explanation(file.name, &store, &list, url, context);
+        drop(store);
+        printed
     }
 
     // Prints which cookies of a file a request has, and why it does not have the others.
@@ -184,8 +190,10 @@ impl<'r> Runner<'r> {
         suffixes: Option<SuffixFile<'a>>,
     ) -> Result<(), Failure<'a>> {
         let list = self.list(suffixes)?;
-        let text = self.insertion(&mut self.store_under(list), header)?;
-        self.write("-", text.as_bytes())
+        let mut store = self.store_under(list);
+        let text = self.insertion(&mut store, header);
+        drop(store);
+        self.write("-", text?.as_bytes())
     }
 
     // Inserts the cookie of a header value. Returns what is stored, or why it is rejected.
