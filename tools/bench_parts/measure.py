@@ -10,7 +10,8 @@ from typing import Callable
 from common import first_match, processor_seconds, stop
 
 GNU_TIME = '/usr/bin/time'
-RUNS = 5
+RUNS, MOST_RUNS = 5, 15
+FALL = 0.05  # the part of a least time by which a later run is less, if that time was by chance
 BUDGET = 15.0  # seconds of a series after which no further run begins
 
 
@@ -57,13 +58,19 @@ class Series:
     def __init__(self, program, task, count, paths):
         self.program, self.task, self.count, self.paths = program, task, count, paths
         self.best: list[float] = [float('inf')] * 2
-        self.spent, self.runs = 0.0, 0
+        self.spent, self.runs, self.fell = 0.0, 0, 0
 
     def run(self):
         took = [seconds(self.program, path, self.task.arguments) for path in self.paths]
-        self.best = [min(times) for times in zip(self.best, took)]
         self.spent += sum(took)
         self.runs += 1
+        if any(seconds < best * (1 - FALL) for seconds, best in zip(took, self.best)):
+            self.fell = self.runs
+        self.best = [min(times) for times in zip(self.best, took)]
+
+    def is_settled(self):
+        """Whether the last runs were no faster than those before."""
+        return self.spent >= BUDGET or self.runs >= self.fell + RUNS - 1
 
     def is_long(self, target):
         """Whether the operations take `target` seconds, and enough beside the base to tell them apart."""
@@ -96,12 +103,15 @@ class Meter:
     def time(self, programs, task, target):
         """Seconds of one operation by program name: the best of interleaved runs, less the base.
 
-        Each program repeats the operation until it takes about `target` seconds.
+        Each program repeats the operation until it takes about `target` seconds. All run on while the last runs of one are faster
+        than those before: a machine may be slow whenever one of them runs.
         """
         all_series = [self._series(program, task, target) for program in programs]
-        for _ in range(RUNS - 1):
+        for run in range(1, MOST_RUNS):
+            if run >= RUNS and all(series.is_settled() for series in all_series):
+                break
             for series in all_series:
-                if series.runs < RUNS and series.spent < BUDGET:
+                if series.runs <= run and series.spent < BUDGET:
                     series.run()
         for series in all_series:
             series.remove()

@@ -109,7 +109,8 @@ scripts.
 
 - A time is processor time, user and system, of the whole process, less that of the script without
   the measured lines. Reading the line and parsing the URL are part of it.
-- It is the best of five interleaved runs, or of fewer if they take more than 15 seconds.
+- It is the best of five interleaved runs, or of fewer if they take more than 15 seconds. All run on,
+  up to fifteen times, while one was faster in its last four runs than before, by a twentieth.
 - A ratio is the peer's figure divided by ours: above 1, ours is faster or smaller.
 - All figures are of one run on one machine. Compare the ratios, not the times, with those of
   another.
