@@ -11,7 +11,7 @@ _cookies() {
         --format | --from)
             case ${COMP_WORDS[1]} in
                 set | remove | purge) mapfile -t COMPREPLY < <(compgen -W 'json jsonl ron sqlite txt' -- "$word") ;;
-                *) mapfile -t COMPREPLY < <(compgen -W 'json jsonl ron sqlite txt browser playwright' -- "$word") ;;
+                *) mapfile -t COMPREPLY < <(compgen -W 'json jsonl ron sqlite txt browser firefox playwright' -- "$word") ;;
             esac
             return ;;
         --now | --domain | --set-cookie) return ;;

@@ -6,7 +6,7 @@ use Rattle.cookies.specs.declared.format.Export.TheVariants.{Browser, Playwright
 use Rattle.cookies.specs.declared.format.FileFormat.{FileFormat}
 use Rattle.cookies.specs.declared.format.FileFormat.TheVariants.{JsonLines, Saved}
 use Rattle.cookies.specs.declared.format.InputFormat.{InputFormat}
-use Rattle.cookies.specs.declared.format.InputFormat.TheVariants.{Output, Export}
+use Rattle.cookies.specs.declared.format.InputFormat.TheVariants.{Output, Export, Firefox}
 use Rattle.cookies.specs.declared.format.OutputFormat.{OutputFormat}
 use Rattle.cookies.specs.declared.format.OutputFormat.TheVariants.{File, Sqlite}
 
@@ -41,7 +41,8 @@ unfoldable pub input_format_of_name : List ℕ → Option InputFormat
 input_format_of_name name =
     if bytes_eq name (codes "browser") then Some (Export Browser)
     else (if bytes_eq name (codes "playwright") then Some (Export Playwright)
-    else option_map Output (output_format_of_name name))
+    else (if bytes_eq name (codes "firefox") then Some Firefox
+    else option_map Output (output_format_of_name name)))
 
 -- the format that the suffix of a file name stands for, of a file that is read
 abbrev pub input_format_of_file_name : List ℕ → Option InputFormat

@@ -1,4 +1,5 @@
 pub mod Cells
+pub mod DatabaseHeaders
 pub mod Domains
 pub mod EditedFiles
 pub mod Escapes
@@ -6,6 +7,7 @@ pub mod Explanations
 pub mod ExportItems
 pub mod FileNames
 pub mod FileFormats
+pub mod FirefoxRows
 pub mod Purges
 pub mod SentCookies
 pub mod ExitStatuses

@@ -241,7 +241,9 @@ fn input_file<'a>(
         None => InputFormat::of_file_name(name),
     };
     match format {
-        Some(InputFormat::Output(OutputFormat::Sqlite)) if name == "-" => Err(Usage::SqliteStream),
+        Some(InputFormat::Output(OutputFormat::Sqlite) | InputFormat::Firefox) if name == "-" => {
+            Err(Usage::SqliteStream)
+        }
         Some(format) => Ok(InputFile {
             name,
             format,

@@ -14,7 +14,8 @@ const VERSION: &str = "0.1.0";
 const AFTER_HELP: &str = "\
 A file has the format of its suffix: .json, .jsonl, .ron, .sqlite or .txt. What
 extensions of browsers and Playwright export is read by --format browser and
---format playwright. The name - is standard input or standard output.";
+--format playwright, a copy of Firefox's cookies.sqlite by --format firefox. The
+name - is standard input or standard output.";
 
 /// An argument: its name, what its value is called, and its help.
 enum Argument {

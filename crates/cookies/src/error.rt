@@ -13,6 +13,7 @@ use cookie_store::netscape::NetscapeError;
 use cookie_store::serde::{FormatError, MigrateError};
 use cookie_store::strict::StrictError;
 use cookie_store::{CookieError, Error};
+use sqlite::ErrorCode;
 use sqlite_trees::error::StoreError;
 use std::alloc::{AllocError, AllocFailed, Global};
 use std::{fmt, io};
@@ -93,6 +94,10 @@ pub enum FileError {
     Unstorable,
     /// Reading or writing the SQLite file failed.
     Database(StoreError),
+    /// It has no table of cookies of Firefox.
+    NotFirefox,
+    /// Reading a SQLite file of another program failed.
+    Sqlite(sqlite::Error),
 }
 
 impl FileError {
@@ -147,6 +152,8 @@ impl fmt::Display for FileError {
                 f.write_str("a cookie is too long for a row, or has a time before the year 0")
             }
             FileError::Database(error) => error.fmt(f),
+            FileError::NotFirefox => f.write_str("not a file of cookies of Firefox"),
+            FileError::Sqlite(error) => error.fmt(f),
         }
     }
 }
@@ -234,6 +241,19 @@ impl From<StoreError> for FileError {
             StoreError::OutOfMemory => FileError::from(Error::Memory),
             StoreError::Unstorable => FileError::Unstorable,
             error => FileError::Database(error),
+        }
+    }
+}
+
+impl From<sqlite::Error> for FileError {
+    fn from(error: sqlite::Error) -> FileError {
+        match error {
+            // the files are in memory, where only a lack of it is such a failure
+            sqlite::Error::SqliteFailure(ErrorCode::OutOfMemory | ErrorCode::SystemIoFailure) => {
+                FileError::from(Error::Memory)
+            }
+            sqlite::Error::SqlInputError(_) => FileError::NotFirefox,
+            error => FileError::Sqlite(error),
         }
     }
 }

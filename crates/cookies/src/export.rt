@@ -44,37 +44,36 @@ fn read_list(
     items: &[Value],
     now: DateTime,
 ) -> Result<Exported, FileError> {
-    let Items {
-        cookies,
-        malformed,
-        partitioned,
-    } = read_items(alloc.alloc, export, items)?;
-    Ok(Exported {
-        store: CookieStore::from_cookies(alloc, cookies.into_iter(), true, now)?,
-        malformed,
-        partitioned,
-    })
+    read_items(alloc.alloc, export, items)?.into_store(alloc, now)
 }
 
-// The cookies of an export, and what is left out.
+/// The cookies of an export, and what is left out.
 #[derive(Drop)]
-struct Items {
+pub struct Items {
     cookies: Vec<Result<Cookie<'static>, Error>>,
     malformed: Vec<usize>,
     partitioned: usize,
 }
 
 impl Items {
-    // Adds the item of this number, whose expiry has this name.
-    fn add(
+    /// Returns those of an export without items.
+    pub fn new(alloc: Global) -> Items {
+        Items {
+            cookies: Vec::new(alloc),
+            malformed: Vec::new(alloc),
+            partitioned: 0,
+        }
+    }
+
+    /// Adds the item of this number, which is not a cookie if `cookie` is `None`.
+    pub fn add(
         &mut self,
-        alloc: Global,
         number: usize,
-        item: &Value,
-        expiry: &str,
+        cookie: Option<Cookie<'static>>,
+        is_partitioned: bool,
     ) -> Result<(), AllocError> {
-        match read_cookie(alloc, item, expiry)? {
-            Some(_) if is_partitioned(item) => {
+        match cookie {
+            Some(_) if is_partitioned => {
                 self.partitioned = self.partitioned.saturating_add(1);
             }
             Some(cookie) => self.cookies.push(Ok(cookie))?,
@@ -82,18 +81,29 @@ impl Items {
         }
         Ok(())
     }
+
+    /// Returns a store of the cookies, with what is left out.
+    pub fn into_store(self, alloc: StoreAlloc, now: DateTime) -> Result<Exported, FileError> {
+        let Items {
+            cookies,
+            malformed,
+            partitioned,
+        } = self;
+        Ok(Exported {
+            store: CookieStore::from_cookies(alloc, cookies.into_iter(), true, now)?,
+            malformed,
+            partitioned,
+        })
+    }
 }
 
 // Reads the items of a list.
 fn read_items(alloc: Global, export: Export, items: &[Value]) -> Result<Items, AllocError> {
     let expiry = expiry_name(export);
-    let mut read = Items {
-        cookies: Vec::new(alloc),
-        malformed: Vec::new(alloc),
-        partitioned: 0,
-    };
+    let mut read = Items::new(alloc);
     for (index, item) in items.iter().enumerate() {
-        read.add(alloc, index.saturating_add(1), item, expiry)?;
+        let cookie = read_cookie(alloc, item, expiry)?;
+        read.add(index.saturating_add(1), cookie, is_partitioned(item))?;
     }
     Ok(read)
 }

@@ -15,19 +15,19 @@ use std::marker::Model;
 use std::num::saturating_f64_to_u64;
 use url::Url;
 
-// The fields of an item.
+/// The fields of an item.
 #[derive(Drop)]
-struct Fields<'a> {
-    // With the dot of a domain cookie.
-    domain: &'a str,
-    is_host_only: bool,
-    path: &'a str,
-    name: &'a str,
-    value: &'a str,
-    expires: CookieExpiration,
-    is_secure: bool,
-    is_http_only: bool,
-    same_site: Option<SameSite>,
+pub struct Fields<'a> {
+    /// With the dot of a domain cookie.
+    pub domain: &'a str,
+    pub is_host_only: bool,
+    pub path: &'a str,
+    pub name: &'a str,
+    pub value: &'a str,
+    pub expires: CookieExpiration,
+    pub is_secure: bool,
+    pub is_http_only: bool,
+    pub same_site: Option<SameSite>,
 }
 
 impl<'a> Model for Fields<'a> {
@@ -81,10 +81,10 @@ pub fn read_cookie(
     }
 }
 
-// Returns the cookie of the fields, or `None` if its name or its value does not read back from a header
-// value, if its domain is not a host, or if its path does not begin with `/`.
+/// Returns the cookie of the fields, or `None` if its name or its value does not read back from a header
+/// value, if its domain is not a host, or if its path does not begin with `/`.
 #[tactic(auto, unfolding(crate::specs::ExportItems::cookie_of))]
-fn cookie_of(alloc: Global, fields: &Fields<'_>) -> Result<Option<Cookie<'static>>, AllocError>
+pub fn cookie_of(alloc: Global, fields: &Fields<'_>) -> Result<Option<Cookie<'static>>, AllocError>
     ensures { IfOk result (λ cookie. cookie ≡ cookie_of fields.now) }
 {
     let raw = raw_cookie(alloc, fields)?;

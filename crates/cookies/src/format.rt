@@ -42,16 +42,19 @@ pub enum InputFormat {
     Output(OutputFormat),
     /// A format that is only read.
     Export(Export),
+    /// A copy of Firefox's file, which is only read.
+    Firefox,
 }
 
 /// The names of the formats that are read.
-pub const INPUT_FORMAT_NAMES: [&str; 7] = [
+pub const INPUT_FORMAT_NAMES: [&str; 8] = [
     "json",
     "jsonl",
     "ron",
     "sqlite",
     "txt",
     "browser",
+    "firefox",
     "playwright",
 ];
 
@@ -111,6 +114,8 @@ impl InputFormat {
             Some(InputFormat::Export(Export::Browser))
         } else if name == "playwright" {
             Some(InputFormat::Export(Export::Playwright))
+        } else if name == "firefox" {
+            Some(InputFormat::Firefox)
         } else {
             Some(InputFormat::Output(OutputFormat::of_name(name)?))
         }

@@ -16,6 +16,8 @@ pub enum Note {
     MalformedItem(usize),
     /// The number of cookies that were left out, since they are partitioned.
     Partitioned(usize),
+    /// The number of cookies of Firefox that were left out, since they are of a partition or a container.
+    Isolated(usize),
     /// The number of cookies that were left out, since the format cannot represent them.
     LeftOut(usize),
     /// The number of cookies that lost their SameSite attribute, which the format does not have.
@@ -30,6 +32,10 @@ impl fmt::Display for Note {
             Note::Partitioned(count) => {
                 write!(f, "cookies left out, since they are partitioned: {count}")
             }
+            Note::Isolated(count) => write!(
+                f,
+                "cookies left out, since they are of a partition or a container: {count}"
+            ),
             Note::LeftOut(count) => write!(
                 f,
                 "cookies left out, since cookies.txt cannot represent them: {count}"
@@ -49,7 +55,7 @@ impl Note {
     pub fn is_empty(&self) -> bool {
         matches!(
             self,
-            Note::Partitioned(0) | Note::LeftOut(0) | Note::WithoutSameSite(0)
+            Note::Partitioned(0) | Note::Isolated(0) | Note::LeftOut(0) | Note::WithoutSameSite(0)
         )
     }
 

@@ -3,6 +3,7 @@ use crate::database;
 use crate::error::{Failure, FileError};
 use crate::export::{Exported, read_exported};
 use crate::files::{self, input_name};
+use crate::firefox::read_firefox;
 use crate::format::{Export, InputFormat, OutputFormat};
 use crate::note::Note;
 use crate::options::{CookieFile, InputFile, SuffixFile};
@@ -15,6 +16,7 @@ use jiff::Timestamp;
 use jiff::civil::DateTime;
 use jiff::tz::Offset;
 use std::hash::RandomState;
+use std::io;
 use url::Url;
 
 /// A `Set-Cookie` header value.
@@ -97,7 +99,16 @@ impl<'r> Runner<'r> {
                 let store = database::read_rows(self.rt, file.name);
                 return store.map_err(|error| Failure::input(file.name, error));
             }
-            InputFormat::Export(export) => return self.exported(file, export),
+            InputFormat::Export(export) => {
+                let contents = self.read(file.name)?;
+                let exported = read_exported(self.alloc, export, contents.as_slice(), self.now);
+                return self.exported(file, exported);
+            }
+            InputFormat::Firefox => {
+                let (contents, log) = (self.read(file.name)?, self.log_of(file.name)?);
+                let (contents, log) = (contents.as_slice(), log.as_slice());
+                return self.exported(file, read_firefox(self.alloc, contents, log, self.now));
+            }
         };
         let contents = self.read(file.name)?;
         if file.skips_malformed {
@@ -108,14 +119,13 @@ impl<'r> Runner<'r> {
         store.map_err(|error| Failure::input(file.name, error.with_skip_option()))
     }
 
-    // Reads the cookies of an export, without malformed items and partitioned cookies.
+    // Returns the cookies of an export, and names what is left out: malformed items and partitioned cookies.
     fn exported<'a>(
         &self,
         file: InputFile<'a>,
-        export: Export,
+        exported: Result<Exported, FileError>,
     ) -> Result<CookieStore, Failure<'a>> {
-        let contents = self.read(file.name)?;
-        match read_exported(self.alloc, export, contents.as_slice(), self.now) {
+        match exported {
             Ok(exported) => {
                 self.say_left_out(file, &exported)?;
                 Ok(exported.store)
@@ -138,7 +148,14 @@ impl<'r> Runner<'r> {
             }
             self.say(name, Note::MalformedItem(*item))?;
         }
-        self.say(name, Note::Partitioned(exported.partitioned))
+        let left_out = exported.partitioned;
+        self.say(
+            name,
+            match file.format {
+                InputFormat::Firefox => Note::Isolated(left_out),
+                _ => Note::Partitioned(left_out),
+            },
+        )
     }
 
     /// Reads the cookies of the well-formed lines of a file, and names the others.
@@ -168,6 +185,18 @@ impl<'r> Runner<'r> {
     pub fn read<'a>(&self, name: &'a str) -> Result<Vec<u8>, Failure<'a>> {
         match files::read(self.rt, name) {
             Ok(contents) => Ok(contents),
+            Err(error) => Err(Failure::input(name, FileError::System(error))),
+        }
+    }
+
+    // Reads the log that SQLite keeps beside a file, if there is one.
+    fn log_of<'a>(&self, name: &'a str) -> Result<Vec<u8>, Failure<'a>> {
+        let log = format!(in self.alloc.alloc; "{name}-wal")?;
+        match files::read(self.rt, log.as_str()) {
+            Ok(contents) => Ok(contents),
+            Err(error) if error.kind() == io::ErrorKind::NotFound => {
+                Ok(Vec::new(self.alloc.alloc))
+            }
             Err(error) => Err(Failure::input(name, FileError::System(error))),
         }
     }
