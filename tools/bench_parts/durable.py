@@ -1,12 +1,13 @@
-"""Times the calls of durable_session, each of which commits its change, beside the same changes by Python's sqlite3.
+"""Times the calls of durable_session, which commits their changes, beside the same changes by Python's sqlite3.
 Usage: tools/bench durable [--folder FOLDER] [CALLS]
 
 Prints how many calls end in a second, by the clock, as they wait for the disk: cookies that are inserted, by default 2,000, and then
-replaced. Python's sqlite3 executes an INSERT OR REPLACE of the same rows by their ids, in WAL mode, with synchronous=FULL. Both run in
-turn, and the best of five runs counts. A ratio is the time of sqlite3 divided by ours. Then it prints the time to open a file with
-100,000 cookies, and that in which sqlite3 fetches their rows. DURABLE_SESSION names another build.
+replaced, with 1, 10 and 100 calls a commit. Python's sqlite3 executes an INSERT OR REPLACE of the same rows by their ids, in WAL mode,
+with synchronous=FULL. Both run in turn, and the best of five runs counts. A ratio is the time of sqlite3 divided by ours. Then it
+prints the time to open a file with 100,000 cookies, and that in which sqlite3 fetches their rows. DURABLE_SESSION names another build.
 
-Exit status: 0; 1 if the program fails, or takes more than 1.5 times the time of sqlite3 on an idle machine."""
+Exit status: 0; 1 if the program fails, or with a commit for each call takes more than 1.5 times the time of sqlite3 on an idle
+machine."""
 import os
 import sqlite3
 import subprocess
@@ -20,7 +21,8 @@ from common import ROOT, SESSION, first_match, machine, read, stop
 OPTIONS: list = []
 PEER = "Python's sqlite3"
 RUNS, MANY = 5, 100_000
-LEAST = 1 / 1.5  # the least ratio
+CALLS_PER_COMMIT = (1, 10, 100)
+LEAST = 1 / 1.5  # the least ratio, with a commit for each call
 INSERT = f'INSERT OR REPLACE INTO cookies VALUES ({", ".join("?" * 15)})'
 NONE = 'remove none.example / none\n'  # a call that changes nothing
 
@@ -35,9 +37,14 @@ def cookie(number, value):
     return f'host{number // 20}.example', f'name{number % 20}', f'{value}{number:031d}'
 
 
-def lines(count, value):
-    for host, name, text in (cookie(number, value) for number in range(count)):
+def lines(count, value, per_commit=1):
+    """The lines of these calls, with `per_commit` of them a commit."""
+    for number, (host, name, text) in enumerate(cookie(number, value) for number in range(count)):
+        if per_commit > 1 and number % per_commit == 0:
+            yield 'begin\n'
         yield f'set http://{host}/ {name}={text}; Path=/; Max-Age=86400; HttpOnly\n'
+        if per_commit > 1 and (number % per_commit == per_commit - 1 or number == count - 1):
+            yield 'commit\n'
 
 
 def rows(count, value):
@@ -55,37 +62,42 @@ def created(path):
     return database
 
 
-def own_seconds(path, input_lines):
-    """When the program starts, and when each line has its reply."""
+def own_seconds(path, input_lines, count):
+    """When each of `count` calls has its reply, from the start of the program on."""
     with tempfile.TemporaryFile('w+') as file:
         file.writelines(input_lines)
         file.seek(0)
         begun = time.perf_counter()
         with subprocess.Popen([SESSION, path], stdin=file, stdout=subprocess.PIPE) as program:
             assert program.stdout
-            times = [time.perf_counter() - begun for _ in input_lines if program.stdout.readline()]
+            times = [time.perf_counter() - begun for _ in range(count) if program.stdout.readline()]
             program.stdout.read()
-    if program.returncode or len(times) != len(input_lines):
+    if program.returncode or len(times) != count:
         stop(f'{SESSION} failed with status {program.returncode}')
     return times
 
 
-def own_calls(path, count):
+def own_calls(path, count, per_commit):
     """The seconds of `count` insertions, and of as many replacements."""
-    times = own_seconds(path, [NONE, *lines(count, 'a'), *lines(count, 'b')])
+    times = own_seconds(path, [NONE, *lines(count, 'a', per_commit), *lines(count, 'b', per_commit)], 1 + 2 * count)
     return times[count] - times[0], times[-1] - times[count]
 
 
-def execute_each(database, changes):
+def execute_each(database, changes, per_commit):
     begun = time.perf_counter()
-    for row in changes:
-        database.execute(INSERT, row)
+    for first in range(0, len(changes), per_commit):
+        if per_commit > 1:
+            database.execute('BEGIN')
+        for row in changes[first:first + per_commit]:
+            database.execute(INSERT, row)
+        if per_commit > 1:
+            database.execute('COMMIT')
     return time.perf_counter() - begun
 
 
-def peer_calls(path, count):
+def peer_calls(path, count, per_commit):
     with closing(created(path)) as database:
-        return execute_each(database, rows(count, 'a')), execute_each(database, rows(count, 'b'))
+        return execute_each(database, rows(count, 'a'), per_commit), execute_each(database, rows(count, 'b'), per_commit)
 
 
 def fetched(path):
@@ -100,6 +112,19 @@ def on_new_file(folder, measure, *arguments):
         return measure(f'{room}/cookies.sqlite', *arguments)
 
 
+def calls(folder, count, per_commit):
+    """Prints how many calls end in a second, with `per_commit` of them a commit. Returns the warnings."""
+    taken = [[on_new_file(folder, each, count, per_commit) for each in (own_calls, peer_calls)] for _ in range(RUNS)]
+    ours, theirs = ([min(each) for each in zip(*side)] for side in zip(*taken))
+    warnings: list = []
+    for title, own, peer in zip(('insert', 'replace'), ours, theirs):
+        title = f'{title} {count:,} cookies, {per_commit} a commit'
+        print(title.ljust(48) + f'{count / own:18,.0f}{count / peer:18,.0f}{peer / own:8.2f}')
+        if per_commit == 1:
+            warnings += report.behind(title, PEER, peer / own, LEAST)
+    return warnings
+
+
 def opening(folder):
     """The seconds to open a file of many cookies, and to fetch its rows, the least of some."""
     path = f'{folder}/many.sqlite'
@@ -107,7 +132,7 @@ def opening(folder):
         database.execute('BEGIN')
         database.executemany(INSERT, rows(MANY, 'a'))
         database.execute('COMMIT')
-    times = [(own_seconds(path, [NONE])[0], fetched(path)) for _ in range(RUNS)]
+    times = [(own_seconds(path, [NONE], 1)[0], fetched(path)) for _ in range(RUNS)]
     return tuple(min(each) for each in zip(*times))
 
 
@@ -118,13 +143,9 @@ def run(options):
     warnings: list = []
     print(f'{machine()}, load {load:.2f}')
     with tempfile.TemporaryDirectory(dir=options.folder) as folder:
-        taken = [[on_new_file(folder, each, options.CALLS) for each in (own_calls, peer_calls)] for _ in range(RUNS)]
-        ours, theirs = ([min(each) for each in zip(*side)] for side in zip(*taken))
-        print('calls a second, with a commit each'.ljust(48) + 'durable_session'.rjust(18) + PEER.rjust(18) + 'ratio'.rjust(8))
-        for title, own, peer in zip(('insert', 'replace'), ours, theirs):
-            title = f'{title} {options.CALLS:,} cookies'
-            print(title.ljust(48) + f'{options.CALLS / own:18,.0f}{options.CALLS / peer:18,.0f}{peer / own:8.2f}')
-            warnings += report.behind(title, PEER, peer / own, LEAST)
+        print('calls a second'.ljust(48) + 'durable_session'.rjust(18) + PEER.rjust(18) + 'ratio'.rjust(8))
+        for per_commit in CALLS_PER_COMMIT:
+            warnings += calls(folder, options.CALLS, per_commit)
         own, peer = opening(folder)
         print(f'open a file of {MANY:,} cookies, seconds'.ljust(48) + f'{own:18.2f}')
         print('fetch their rows, seconds'.ljust(48) + f'{"":18}{peer:18.2f}')

@@ -1,4 +1,5 @@
 """Random calls of durable_session, and the cookies after them by a model."""
+from bisect import bisect_left
 from typing import NamedTuple, Optional
 
 # The expiry by the Max-Age, at the program's time, which is 2026-01-01T00:00:00.
@@ -8,6 +9,7 @@ REJECTED = 'attempted to utilize an Expired Cookie'
 HOSTS = ['a.example', 'b.a.example', 'shop.example', 'shop.test', '127.0.0.1']
 PATHS = ['/', '/a', '/a/b']
 LONG = 6000  # bytes of a value that does not fit a page
+MOST = 9  # calls of a batch
 
 
 class Call(NamedTuple):
@@ -15,6 +17,8 @@ class Call(NamedTuple):
     key: tuple = ()  # host, path and name
     value: str = ''
     age: Optional[int] = None
+    begins: bool = False  # it is the first of a batch, whose calls are committed together
+    commits: bool = False  # it is the last of one
 
     def line(self):
         """The line by which the program is called."""
@@ -22,6 +26,17 @@ class Call(NamedTuple):
             host, path, name = self.key
             return f'set http://{host}/ {name}={self.value}; Path={path}' + ('' if self.age is None else f'; Max-Age={self.age}')
         return ' '.join([self.kind, *self.key])
+
+    def lines(self):
+        """Its line, and those around it."""
+        return ['begin'] * self.begins + [self.line()] + ['commit'] * self.commits
+
+
+def batched(calls):
+    """The calls as a batch; each in its own commit if there is one call, or one is a purge."""
+    if len(calls) < 2 or any(call.kind == 'purge' for call in calls):
+        return calls
+    return [call._replace(begins=at == 0, commits=at == len(calls) - 1) for at, call in enumerate(calls)]
 
 
 class Cookies:
@@ -56,14 +71,32 @@ class Cookies:
 
 
 class History:
-    """What the program prints for each call, and the rows before the first call and after each."""
+    """What the program prints for each call, the rows before the first call and after each, and the numbers of calls after which a
+    commit ends."""
 
     def __init__(self, cookies, calls):
         self.calls, self.states = list(calls), [cookies.rows()]
         self.replies: list = []
-        for call in self.calls:
+        self.commits = [0]
+        is_begun = False
+        for number, call in enumerate(self.calls, 1):
             self.replies.append(cookies.execute(call))
             self.states.append(cookies.rows())
+            is_begun = (is_begun or call.begins) and not call.commits
+            if not is_begun:
+                self.commits.append(number)
+
+    def committed(self, acknowledged):
+        """The number of calls that are committed once these are acknowledged: a batch is committed before its replies are printed."""
+        return self.commits[bisect_left(self.commits, acknowledged)]
+
+    def may_hold(self, acknowledged, is_stopped=False):
+        """The numbers of calls that the file may hold once these are acknowledged: those that are committed and, if all of them are
+        acknowledged, those of the next commit too. If the program stopped at an error in a batch, it committed the calls before it."""
+        if is_stopped:
+            return sorted({acknowledged, *self.may_hold(acknowledged)})
+        first = self.commits.index(self.committed(acknowledged))
+        return self.commits[first:first + 1 + (self.commits[first] == acknowledged)]
 
 
 def cookies_of(rows):
@@ -91,4 +124,14 @@ def random_call(rng):
 
 
 def random_calls(rng, count):
+    """Calls, each in its own commit."""
     return [random_call(rng) for _ in range(count)]
+
+
+def random_batches(rng, count):
+    """Calls of which some are batches."""
+    calls: list = []
+    while len(calls) < count:
+        size = rng.choices([1, rng.randint(1, MOST)], [8, 1])[0]
+        calls += batched(random_calls(rng, min(size, count - len(calls))))
+    return calls

@@ -6,7 +6,7 @@ import shutil
 import tempfile
 from typing import NamedTuple
 
-from durable_parts.calls import LONG, Call, Cookies, History, cookies_of, random_calls
+from durable_parts.calls import LONG, Call, Cookies, History, batched, cookies_of, random_calls
 from durable_parts.session import NAME, Failed, check_prefix, check_replies, check_whole, copy_open, mapped, run
 from durable_parts.shim import events, preloaded
 
@@ -17,6 +17,7 @@ ONE, TWO, THREE = ('a.example', '/', 'one'), ('a.example', '/a', 'two'), ('b.exa
 CALLS = [
     Call('set', ONE, '1'), Call('set', TWO, 'x' * LONG, 60), Call('remove', THREE), Call('set', ONE, '2'), Call('set', ONE, '', 0),
     Call('purge'), Call('set', THREE, '3', 86400), Call('remove', THREE), Call('clear'), Call('set', ONE, '4'),
+    *batched([Call('set', TWO, '5'), Call('remove', ONE), Call('set', ONE, 'x' * LONG), Call('set', TWO, '6', 60)]),
 ]
 
 
@@ -71,7 +72,7 @@ class Turns:
             check_whole(self.history, done)
         elif done.status != 1 or not re.fullmatch(f'error: ({fault.errors})', done.error):
             raise Failed(f'status {done.status} after {acknowledged} calls, {done.error or "no error"}')
-        check_prefix(self.program, folder, self.history.states, acknowledged)
+        check_prefix(self.program, folder, self.history, acknowledged, done.status == 1)
 
     def each(self, pool, fault):
         """Makes each call fail. Returns how many there are."""

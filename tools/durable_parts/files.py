@@ -8,12 +8,13 @@ import sys
 import tempfile
 from contextlib import closing
 
-from durable_parts.calls import Call, Cookies, History, listing, random_calls
+from durable_parts.calls import Call, Cookies, History, listing, random_batches
 from durable_parts.session import (
     FILES, NAME, Failed, calls_done, check_whole, copy_open, file_of, mapped, opened, rows_by_sqlite, run, text_of)
 
 CALLS = 60
 ONE = [Call('set', ('a.example', '/', 'another'), '1')]
+TWO = [*ONE, Call('set', ('b.example', '/', 'another'), '2')]  # so that a file has two rows, also after `clear`
 PAGE = 4096
 # Reads a file by sqlite3, in a process of its own: one that closes a file loses its locks on it.
 READER = """import sqlite3, sys
@@ -136,7 +137,7 @@ class Files:
     def __init__(self, program, folder, rng):
         self.program, self.folder, self.rng = program, folder, rng
         self.log, self.database = f'{folder}/log', f'{folder}/database'
-        self.history = History(Cookies(), random_calls(rng, CALLS))
+        self.history = History(Cookies(), [*random_batches(rng, CALLS), *TWO])
         copy_open(program, self.history, self.log)
         shutil.copytree(self.log, self.database)
         rows_by_sqlite(self.database)  # it copies the log into the database file
@@ -204,7 +205,7 @@ class Files:
                 elif sorted(done.cookies) != listing(rows_by_sqlite(copied)):
                     raise Failed('the program finds other cookies than sqlite3')
                 elif name != NAME:
-                    calls_done(sorted(done.cookies), list(map(listing, self.history.states)), 'the program')
+                    calls_done(sorted(done.cookies), [listing(self.history.states[count]) for count in self.history.commits], 'the program')
             except Failed as why:
                 raise Failed(f'{name}, damaged by seed {seed}: {why}')
 

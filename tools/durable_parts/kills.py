@@ -6,7 +6,7 @@ import subprocess
 import tempfile
 import time
 
-from durable_parts.calls import Cookies, History, cookies_of, random_calls
+from durable_parts.calls import Cookies, History, cookies_of, random_batches
 from durable_parts.session import Failed, check_prefix, check_replies, check_whole, file_of, run, run_of, text_of
 
 CALLS = 300  # of a run
@@ -46,7 +46,7 @@ class Chain:
         self.program, self.folder, self.rng = program, folder, rng
         self.rows: list = []
         self.runs = self.kills = self.acknowledged = self.ahead = 0
-        self.opening, self.whole = (seconds_of(program, self.new_folder(), calls) for calls in ([], random_calls(rng, CALLS)))
+        self.opening, self.whole = (seconds_of(program, self.new_folder(), calls) for calls in ([], random_batches(rng, CALLS)))
 
     def new_folder(self):
         shutil.rmtree(self.folder, ignore_errors=True)
@@ -60,18 +60,18 @@ class Chain:
         seconds = self.rng.uniform(0, self.opening if is_new else self.whole)
         if is_new:
             self.new_folder()
-        history = History(cookies_of(self.rows), random_calls(self.rng, CALLS))
+        history = History(cookies_of(self.rows), random_batches(self.rng, CALLS))
         done = killed(self.program, self.folder, history.calls, seconds)
         if done.status not in (0, KILLED) or done.error:
             raise Failed(f'status {done.status}: {done.error}')
         acknowledged = check_replies(history, done)
-        ahead = check_prefix(self.program, self.folder, history.states, acknowledged)
-        self.rows = history.states[acknowledged + ahead]
+        held = check_prefix(self.program, self.folder, history, acknowledged)
+        self.rows = history.states[held]
         self.runs += 1
         self.kills += done.status == KILLED
         self.whole *= 1 if done.status == KILLED or is_new else SHORTER
         self.acknowledged += acknowledged
-        self.ahead += ahead
+        self.ahead += held > history.committed(acknowledged)
 
 
 def check(program, folder, rng, is_enough):

@@ -8,7 +8,7 @@ import random
 import tempfile
 from typing import NamedTuple
 
-from durable_parts.calls import Cookies, History, cookies_of, random_calls
+from durable_parts.calls import Cookies, History, cookies_of, random_batches
 from durable_parts.session import FILES, NAME, Failed, check_prefix, check_whole, mapped, run
 from durable_parts.shim import events, preloaded
 
@@ -174,8 +174,8 @@ class Recorded:
         """Returns the files that a power cut left, and the rows in them."""
         acknowledged, files = cut
         with tempfile.TemporaryDirectory(dir=self.folder) as room:
-            ahead = check_prefix(self.program, written(f'{room}/files', files), self.history.states, acknowledged)
-        return files, self.history.states[acknowledged + ahead]
+            held = check_prefix(self.program, written(f'{room}/files', files), self.history, acknowledged)
+        return files, self.history.states[held]
 
     def check_cuts(self, pool, rng, count, kept=0):
         """Cuts the power so many times. Returns what some of the cuts left."""
@@ -186,10 +186,10 @@ class Recorded:
 
 def check(program, library, folder, pool, rng, count):
     """Cuts the power so many times in one run, and again in runs on some of the files that this left. Returns how many times in all."""
-    first = Recorded(program, library, folder, {}, History(Cookies(), random_calls(rng, CALLS)))
+    first = Recorded(program, library, folder, {}, History(Cookies(), random_batches(rng, CALLS)))
     if not first.is_copied_by_call():
         raise Failed(f'the log is not copied into the database file in {CALLS} calls')
     for files, rows in first.check_cuts(pool, rng, count, AGAIN):
-        again = Recorded(program, library, folder, files, History(cookies_of(rows), random_calls(rng, FEW)))
+        again = Recorded(program, library, folder, files, History(cookies_of(rows), random_batches(rng, FEW)))
         again.check_cuts(pool, rng, AGAIN)
     return count + AGAIN * AGAIN

@@ -37,7 +37,7 @@ def file_of(folder):
 
 
 def text_of(calls):
-    return ''.join(f'{call.line()}\n' for call in calls).encode()
+    return ''.join(f'{line}\n' for call in calls for line in call.lines()).encode()
 
 
 def run_of(status, printed, errors, calls):
@@ -137,12 +137,14 @@ def check_copies(program, folder, allowed, room):
     return done
 
 
-def check_prefix(program, folder, states, acknowledged):
-    """The file holds the cookies after all acknowledged calls, and at most one more: by sqlite3 and by the program, and by sqlite3
-    once the program has opened it. Returns how many more. The files of the folder stay as they are."""
+def check_prefix(program, folder, history, acknowledged, is_stopped=False):
+    """The file holds the cookies after the acknowledged calls, or those of the next commit too, as `may_hold` says: by sqlite3 and by
+    the program, and by sqlite3 once the program has opened it. Returns how many calls it holds. The files of the folder stay as they
+    are."""
+    may_hold = history.may_hold(acknowledged, is_stopped)
     with tempfile.TemporaryDirectory(dir=os.path.dirname(folder)) as room:
         try:
-            return check_copies(program, folder, states[acknowledged:acknowledged + 2], room)
+            return may_hold[check_copies(program, folder, [history.states[count] for count in may_hold], room)]
         except Failed as why:
             shutil.copytree(folder, KEPT, dirs_exist_ok=True)
             raise Failed(f'after {acknowledged} acknowledged calls {why}; {KEPT} has the files')

@@ -1,7 +1,8 @@
 #!/usr/bin/env -S python3 -B
 """Stands for durable_session in tools/test_tools: keeps the cookies of the model by sqlite3. Usage: stand_in.py FILE
 
-STAND_IN names a fault: `early` acknowledges a call before its commit, `idle` syncs nothing, `careless` passes over errors."""
+STAND_IN names a fault: `early` acknowledges a call before its commit, `apart` commits each call of a batch on its own, `idle` syncs
+nothing, `careless` passes over errors."""
 import os
 import sqlite3
 import sys
@@ -42,14 +43,23 @@ def main():
     database.execute(f'PRAGMA synchronous = {"OFF" if FAULT == "idle" else "FULL"}')
     database.execute(f'CREATE TABLE IF NOT EXISTS cookies (id INTEGER PRIMARY KEY, {COLUMNS})')
     cookies = cookies_of(database.execute(ROWS).fetchall())
-    for line in sys.stdin:
-        reply = cookies.execute(call_of(line.rstrip('\n')))
+    is_begun, replies = False, []
+    for line in map(str.rstrip, sys.stdin):
+        if line in ('begin', 'commit'):
+            is_begun = line == 'begin'
+        else:
+            replies.append(cookies.execute(call_of(line)))
+        if is_begun:
+            if FAULT == 'apart':
+                commit(database, cookies.rows())
+            continue
         if FAULT == 'early':
-            print(reply, flush=True)
+            print(*replies, sep='\n', flush=True)
             time.sleep(0.002)
         commit(database, cookies.rows())
         if FAULT != 'early':
-            print(reply, flush=True)
+            print(*replies, sep='\n', flush=True)
+        replies = []
     for line in listing(database.execute(ROWS).fetchall()):
         print(line)
 

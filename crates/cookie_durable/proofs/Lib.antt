@@ -1,6 +1,7 @@
 pub mod CallPrefixes
 pub mod CallSteps
 pub mod CommittedCalls
+pub mod DeletedRows
 pub mod GoneIds
 pub mod IdsByKey
 pub mod KeptRows
@@ -12,11 +13,10 @@ pub mod ReadRows
 pub mod RowEdits
 pub mod SavedFiles
 pub mod SessionRows
+pub mod StagedCalls
+pub mod StagedRows
 pub mod StoppedCalls
-pub mod StoredCalls
 pub mod StrictCalls
-pub mod SweptFiles
 pub mod SweptRows
 pub mod TouchedKeys
 pub mod WrittenCookies
-pub mod WrittenFiles

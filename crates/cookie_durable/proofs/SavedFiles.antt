@@ -1,5 +1,5 @@
 -- What a file holds after changes were committed, or may hold after a crash.
-use Rattle.std.proofs.Common.{◌≡◌, ℕ, ℤ, Bool, true, false, List, Option, Result, Ok, Err, OnOk, ⊎_elim, true≢false, sym, ap, subst, ◌∙◌}
+use Rattle.std.proofs.Common.{◌≡◌, ℕ, ℤ, Bool, true, false, List, Option, ⊎_elim, true≢false, sym, ap, subst, ◌∙◌}
 use Rattle.std.proofs.lemmas.Bool.{cases_Bool}
 use Rattle.sqlite_trees.specs.Tree.{Trees}
 use Rattle.sqlite_trees.specs.Objects.{catalog_tree}
@@ -8,31 +8,20 @@ use Rattle.sqlite_trees.specs.declared.store.Shape.{Shape}
 use Rattle.cookie_psl.specs.Rules.{RuleList}
 use Rattle.cookie_laws.specs.Contents.{Contents}
 use Rattle.durable_table.specs.Changes.{after, in_table}
-use Rattle.durable_table.specs.Transactions.{CommitsChanges, IsReady}
+use Rattle.durable_table.specs.Transactions.{IsReady}
 use Rattle.durable_table.specs.declared.change.Change.{Change}
 use Rattle.durable_table.proofs.InTable.{in_table-at}
-use Rattle.cookie_durable.specs.Durable.{IsSaved, IsUnwritten}
+use Rattle.cookie_durable.specs.Durable.{Durable, IsSaved, IsUnwritten, WillSave}
 use Rattle.cookie_durable.specs.Numbering.{Ids, IsNumbered}
 use Rattle.cookie_durable.specs.SavedTables.{Holds}
 use Rattle.cookie_durable.proofs.WrittenCookies.{numbered-holds}
 
--- changes that lead to the rows of a store
-module _ (before store : Contents) (ids new_ids : Ids) (next new_next : ℤ) (table : ℕ) (changes : List Change) (v : View)
-    (saved : IsSaved before ids next table v) (numbered : IsNumbered store new_ids new_next (after changes (v.committed table))) where
-  -- once they are committed, the table has the store
-  pub committed-saved : (w : View) → CommitsChanges table changes v w → IsSaved store new_ids new_next table w
-  committed-saved w commits = record {
-    is_open = ap (λ (u : View). u.is_open) commits.is ∙ saved.is_open;
-    sound = ap (λ (u : View). u.is_broken) commits.is ∙ saved.sound;
-    numbered = subst (IsNumbered store new_ids new_next)
-        (sym (ap (λ (u : View). u.committed table) commits.is ∙ in_table-at table (after changes) v.committed)) numbered;
-  }
-
-  -- a file with these changes has the store
-  pub changed-holds : (db : Trees) → db ≡ in_table table (after changes) v.committed → Holds store (db table)
-  changed-holds db is =
-      subst (Holds store) (sym (ap (λ (trees : Trees). trees table) is ∙ in_table-at table (after changes) v.committed))
-      (numbered-holds store new_ids new_next (after changes (v.committed table)) numbered)
+-- a file with the changes that were made in memory has the cookies
+pub will-hold : {S : Type 0} (d : Durable S) (changes : List Change) (v : View) → WillSave d changes v
+    → (db : Trees) → db ≡ in_table d.table (after changes) v.committed → Holds d.store (db d.table)
+will-hold d changes v will db is =
+    subst (Holds d.store) (sym (ap (λ (trees : Trees). trees d.table) is ∙ in_table-at d.table (after changes) v.committed))
+    (numbered-holds d.store d.ids d.next (after changes (v.committed d.table)) will.numbered)
 
 -- a file that is open has after a crash what it has now
 pub settled-holds : (store : Contents) (ids : Ids) (next : ℤ) (table : ℕ) (v : View) → IsSaved store ids next table v
@@ -43,11 +32,6 @@ settled-holds store ids next table v saved db is =
 -- what is not broken is open
 pub open_if_sound : (is_open is_broken : Bool) → (is_open ≡ false → is_broken ≡ true) → is_broken ≡ false → is_open ≡ true
 open_if_sound is_open is_broken shut sound = ⊎_elim (λ is. is) (λ is. absurd (true≢false (sym (shut is) ∙ sound))) (cases_Bool is_open)
-
--- what follows from a fact of a result that is Ok
-pub on_ok : {T E A B : Type 0} (result : Result T E) → (A → B) → OnOk result A → OnOk result B
-on_ok (Ok value) f a = f a
-on_ok (Err error) f a = tt
 
 -- only the cursors moved, so nothing is pending
 pub unwritten-ready : (table : ℕ) (old new : View) → IsUnwritten old new → IsReady table old → IsReady table new

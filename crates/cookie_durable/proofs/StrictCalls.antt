@@ -1,13 +1,12 @@
 -- What a call under the rules of browsers touches: as the plain call that it becomes, or nothing.
-use Rattle.std.proofs.Common.{◌≡◌, ℕ, ℤ, List, [], ◌∷◌, ◌++◌, Option, Some, None, Result, Ok, Err, OnErr, OnOk, ◌⊎◌, inl, inr, ⊎_elim, refl, sym, ap, subst, ◌∙◌}
+use Rattle.std.proofs.Common.{◌≡◌, ℕ, ℤ, List, [], ◌∷◌, ◌++◌, Option, Some, None, Result, Ok, Err, ◌⊎◌, inl, inr, ⊎_elim, refl, sym, ap, subst, ◌∙◌}
 use Rattle.std.specs.Prelude.{filter, is_some, IfSome}
 use Rattle.std.specs.Result.{result_map_both}
 use Rattle.url.specs.Parts.{Parts}
-use Rattle.sqlite_trees.specs.View.{View}
+use Rattle.sqlite_value.specs.Order.{Row as TableRow}
 use Rattle.cookie_words.specs.Moments.{Moment}
 use Rattle.cookie_parts.specs.Cookie.{Row, and_then}
 use Rattle.cookie_parts.specs.declared.cookie_error.CookieError.{CookieError}
-use Rattle.cookie_parts.specs.declared.cookie_error.CookieError.TheVariants.{Memory}
 use Rattle.cookie_parts.specs.declared.store_action.StoreAction.{StoreAction}
 use Rattle.cookie_parts.specs.declared.store_action.StoreAction.TheVariants.{Inserted, ExpiredExisting, UpdatedExisting}
 use Rattle.cookie_laws.specs.Acceptance.{accept}
@@ -20,12 +19,11 @@ use Rattle.cookie_laws.proofs.LimitedRows.{row-created}
 use Rattle.cookie_strict.specs.HeaderValue.{draft_cookie, header_error, pair_error, strict_cookie}
 use Rattle.cookie_strict.specs.Lifetime.{limited_cookie}
 use Rattle.cookie_strict.specs.StrictRules.{broken_rule}
-use Rattle.cookie_strict.specs.StrictRuns.{allowed_insertion, if_accepted, plain_calls, response_call, response_error, site_reply, store_after_call, strict_call, strict_insertion, unless_broken, unless_error, IsStrictReply}
+use Rattle.cookie_strict.specs.StrictRuns.{allowed_insertion, if_accepted, plain_calls, response_call, response_error, site_reply, store_after_call, strict_call, strict_insertion, unless_broken, unless_error}
 use Rattle.cookie_strict.specs.declared.context.Context.{Context}
 use Rattle.cookie_strict.specs.declared.error.StrictError.{StrictError}
 use Rattle.cookie_strict.specs.declared.error.StrictError.TheVariants.{Cookie}
-use Rattle.cookie_durable.specs.Durable.{IsSaved}
-use Rattle.cookie_durable.specs.Numbering.{Ids, Names, Touches, key_in}
+use Rattle.cookie_durable.specs.Numbering.{Ids, IsNumbered, Names, Touches, key_in}
 use Rattle.cookie_durable.proofs.TouchedKeys.{accept-touches, created_by}
 
 -- a call that changes nothing touches any key
@@ -123,31 +121,23 @@ module _ (before : Contents) (cookie : Row) (url : Parts) (now : Moment) (none :
       (λ failed. subst made (sym failed.1) (rejected_touches failed.0))
       (read_or_not text url now))
 
--- calls on a saved store
-pub insertion_on_saved : (before store : Contents) (cookie : Row) (url : Parts) (now : Moment) (names : Names) (ids : Ids) (next : ℤ) (table : ℕ) (v : View)
-    → key_in names ≡ key_of cookie → store ≡ store_after_call (strict_insertion cookie url now before) before → IsSaved before ids next table v
+-- calls on a store whose cookies are the rows of a table
+pub insertion_on_numbered : (before store : Contents) (cookie : Row) (url : Parts) (now : Moment) (names : Names) (ids : Ids) (next : ℤ) (rows : List TableRow)
+    → key_in names ≡ key_of cookie → store ≡ store_after_call (strict_insertion cookie url now before) before → IsNumbered before ids next rows
     → Touches (key_in names) before store
-insertion_on_saved before store cookie url now names ids next table v same is saved =
+insertion_on_numbered before store cookie url now names ids next rows same is numbered =
     subst (λ (s : Contents). Touches (key_in names) before s) (sym is)
     (subst (λ (k : Key). Touches k before (store_after_call (strict_insertion cookie url now before) before)) (sym same)
-    (insertion_touches before cookie url now saved.numbered.unlimited saved.numbered.order))
+    (insertion_touches before cookie url now numbered.unlimited numbered.order))
 
-pub response_on_saved : (before store : Contents) (context : Context) (text : List ℕ) (cookie : Row) (url : Parts) (now : Moment) (names : Names) (ids : Ids)
-    (next : ℤ) (table : ℕ) (v : View)
+pub response_on_numbered : (before store : Contents) (context : Context) (text : List ℕ) (cookie : Row) (url : Parts) (now : Moment) (names : Names) (ids : Ids)
+    (next : ℤ) (rows : List TableRow)
     → draft_cookie text url now ≡ Ok cookie → key_in names ≡ key_of cookie
-    → store ≡ store_after_call (response_call context text url now before) before → IsSaved before ids next table v → Touches (key_in names) before store
-response_on_saved before store context text cookie url now names ids next table v read same is saved =
+    → store ≡ store_after_call (response_call context text url now before) before → IsNumbered before ids next rows → Touches (key_in names) before store
+response_on_numbered before store context text cookie url now names ids next rows read same is numbered =
     subst (λ (s : Contents). Touches (key_in names) before s) (sym is)
     (subst (λ (k : Key). Touches k before (store_after_call (response_call context text url now before) before)) (sym same)
-    (response_touches before cookie url now saved.numbered.unlimited saved.numbered.order context text read))
-
--- a reply that is not out of memory leaves the store after the call
-pub left_by_reply : (reply : Result StoreAction StrictError) (allowed : Result Call StrictError) (old new : Contents) → IsStrictReply reply allowed old
-    → (reply ≡ Err (Cookie Memory) → ⊥) → OnOk reply (new ≡ store_after_call allowed old) → OnErr reply (new ≡ old)
-    → new ≡ store_after_call allowed old
-left_by_reply (Ok action) allowed old new replied known stored unchanged = stored
-left_by_reply (Err error) allowed old new replied known stored unchanged =
-    ⊎_elim (λ memory. absurd (known (ap Err memory))) (λ is. unchanged ∙ ap (λ a. store_after_call a old) (sym is)) replied
+    (response_touches before cookie url now numbered.unlimited numbered.order context text read))
 
 -- what holds of the value of an option
 pub when_some : {A : Type 0} (found : Option A) (value : A) (P : A → Type 0) → found ≡ Some value → IfSome found P → P value

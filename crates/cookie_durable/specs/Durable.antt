@@ -1,11 +1,14 @@
 -- A durable store as contracts see it, and what its file holds.
 use Rattle.std.specs.Prelude.{◌≡◌, ◌⊎◌, ◌≤◌, ℕ, ◌+◌, ℤ, Bool, false, true, IsTrue, List, length, take, Result, Ok, Err}
+use Rattle.std.specs.List.{All}
 use Rattle.sqlite_value.specs.Order.{Row as TableRow}
 use Rattle.sqlite_trees.specs.Tree.{Trees}
 use Rattle.sqlite_trees.specs.View.{View, IsClean}
 use Rattle.cookie_laws.specs.Contents.{Contents}
 use Rattle.cookie_laws.specs.Runs.{Call, store_after}
+use Rattle.durable_table.specs.Changes.{after, HasRowid}
 use Rattle.durable_table.specs.Transactions.{IsReady}
+use Rattle.durable_table.specs.declared.change.Change.{Change}
 use Rattle.cookie_durable.specs.Numbering.{Ids, IsNumbered}
 use Rattle.cookie_durable.specs.SavedTables.{Holds}
 use Rattle.cookie_durable.specs.declared.durable_error.DurableError.{DurableError}
@@ -34,6 +37,19 @@ pub record IsSaved (store : Contents) (ids : Ids) (next : ℤ) (table : ℕ) (v 
 pub record IsInStep {S : Type 0} (d : Durable S) (v : View) : Type 0 where
   pub ready : IsClean v → IsReady d.table v
   pub saved : d.is_failed ≡ false → IsClean v → IsSaved d.store d.ids d.next d.table v
+
+-- the table will have the cookies of the store once these changes are committed
+pub record WillSave {S : Type 0} (d : Durable S) (changes : List Change) (v : View) : Type 0 where
+  pub is_open : IsTrue v.is_open
+  pub sound : v.is_broken ≡ false
+  pub numbered : IsNumbered d.store d.ids d.next (after changes (v.committed d.table))
+
+-- the file has no open transaction, and unless a write failed, the table will have the cookies of the store once these changes are
+-- committed
+pub record IsStaged {S : Type 0} (d : Durable S) (changes : List Change) (v : View) : Type 0 where
+  pub ready : IsClean v → IsReady d.table v
+  pub keyed : All HasRowid changes
+  pub saved : d.is_failed ≡ false → IsClean v → WillSave d changes v
 
 -- only the cursors moved
 abbrev pub IsUnwritten : View → View → Type 0

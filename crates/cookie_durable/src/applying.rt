@@ -1,5 +1,5 @@
 //! Calls as values, executed one after the other.
-ghost use Rattle.std.specs.Prelude.{◌≡◌, ◌≤◌, false, length, map, take, Err, IfErr, IfOk, IsTrue, OnOk};
+ghost use Rattle.std.specs.Prelude.{◌≡◌, ◌≤◌, [], false, length, map, take, Err, IfErr, IfOk, IsTrue, OnOk};
 ghost use Rattle.sqlite_trees.specs.Tree.{Trees};
 ghost use Rattle.sqlite_trees.specs.View.{doubt, IsClean};
 ghost use Rattle.cookie_core.specs.CallViews.{call_view, reply_view};
@@ -30,31 +30,16 @@ impl<S: Store> DurableStore<S> {
         // A crash leaves the table as it was, or with the cookies after the call.
         ensures crash { IsAtomic S.Store.view S.Store.recovers self.old self.new (step (call_view call) self.old.store).store }
 
+        ensures works { OnOk result (self.old.is_failed ≡ false) }
         ensures failed { IsTrue self.old.is_failed → result ≡ Err DurableError.Failed }
         ensures reason { IfErr result (λ e. IsReasonOf e self.old (call_view call)) }
         ensures table { self.new.table ≡ self.old.table }
         ensures clean { doubt (S.Store.view self.old.file).is_clean ≤ doubt (S.Store.view self.new.file).is_clean }
     {
-        match call {
-            Call::Set { text, url, now } => match self.parse(alloc, text.as_str(), &url, now) {
-                Ok(stored) => Ok(Reply::Stored(stored)),
-                Err(error) => Err(error),
-            },
-            Call::Insert { cookie, url, now } => match self.insert(alloc, cookie, &url, now) {
-                Ok(stored) => Ok(Reply::Stored(stored)),
-                Err(error) => Err(error),
-            },
-            Call::Remove { domain, path, name } => {
-                match self.remove(alloc, domain.as_str(), path.as_str(), name.as_str()) {
-                    Ok(removed) => Ok(Reply::Removed(removed)),
-                    Err(error) => Err(error),
-                }
-            }
-            Call::Clear => match self.clear(alloc) {
-                Ok(()) => Ok(Reply::Cleared),
-                Err(error) => Err(error),
-            },
-        }
+        let mut changes = Vec::new(alloc);
+        let reply = self.stage_call(alloc, call, &mut changes)?;
+        self.commit_changes(changes.as_slice())?;
+        Ok(reply)
     }
 
     /// Executes the calls in order, each committed before the next, up to the first that fails.
@@ -79,6 +64,7 @@ impl<S: Store> DurableStore<S> {
         ensures crash { self.old.is_failed ≡ false → IsClean (S.Store.view self.new.file) → (db : Trees) → S.Store.recovers self.new.file db
             → HoldsAfterPrefix (length result.0.items) (map call_view calls.items) self.old.store (db self.old.table) }
 
+        ensures failed { IsTrue self.old.is_failed → (self.new ≡ self.old) × (result.0.items ≡ []) }
         ensures reason { IfErr result.1 (λ e. IsReasonAfter e self.old (length result.0.items) (map call_view calls.items)) }
         ensures table { self.new.table ≡ self.old.table }
         ensures clean { doubt (S.Store.view self.old.file).is_clean ≤ doubt (S.Store.view self.new.file).is_clean }

@@ -1,25 +1,15 @@
 //! The calls that change cookies.
-ghost use Rattle.std.specs.Prelude.{◌≡◌, ◌⊎◌, ◌≤◌, false, true, Err, IfErr, IfOk, IsTrue, OnErr, OnOk};
+ghost use Rattle.std.specs.Prelude.{◌≡◌, ◌≤◌, false, Err, IfErr, IfOk, IsTrue};
 ghost use Rattle.cookie_words.specs.Moments.{moment_of};
-ghost use Rattle.sqlite_trees.specs.Tree.{Trees};
-ghost use Rattle.sqlite_trees.specs.View.{doubt, IsClean};
-ghost use Rattle.durable_table.specs.Transactions.{IsReady};
-ghost use Rattle.cookie_laws.specs.Contents.{Contents};
+ghost use Rattle.sqlite_trees.specs.View.{doubt};
 ghost use Rattle.cookie_laws.specs.Rows.{key_at};
 ghost use Rattle.cookie_laws.specs.Runs.{step, Clear, Insert, Remove, Removed, Set, Stored};
 ghost use Rattle.cookie_durable.specs.Checks.{is_unstorable, IsReasonOf};
-ghost use Rattle.cookie_durable.specs.Durable.{ChangesTo, IsAtomic, IsInStep, IsNotWritten, IsSaved};
-ghost use Rattle.cookie_durable.specs.Numbering.{key_in, Touches};
-ghost use Rattle.cookie_durable.specs.SavedTables.{Holds};
+ghost use Rattle.cookie_durable.specs.Durable.{ChangesTo, IsAtomic, IsInStep};
 
-use crate::changes::deletions;
-use crate::numbering::{Names, names_of};
-use crate::receiving::{insert_received, parse_header};
-use crate::writing::write_cookie;
 use crate::{DurableError, DurableStore};
 use cookie_core::InsertResult;
-use cookie_parts::{Cookie, StoreAction};
-use durable_table::commit;
+use cookie_parts::Cookie;
 use jiff::civil::DateTime;
 use sqlite_trees::store::Store;
 use std::alloc::Global;
@@ -54,13 +44,10 @@ impl<S: Store> DurableStore<S> {
         ensures table { self.new.table ≡ self.old.table }
         ensures clean { doubt (S.Store.view self.old.file).is_clean ≤ doubt (S.Store.view self.new.file).is_clean }
     {
-        if self.is_failed {
-            return Err(DurableError::Failed);
-        }
-        match parse_header(alloc, text, url, now)? {
-            Ok(cookie) => self.insert(alloc, cookie, url, now),
-            Err(rejection) => Ok(Err(rejection)),
-        }
+        let mut changes = Vec::new(alloc);
+        let stored = self.stage_header(alloc, text, url, now, &mut changes)?;
+        self.commit_changes(changes.as_slice())?;
+        Ok(stored)
     }
 
     /// Inserts a cookie received from `url` and commits the change, RFC 6265 5.3. Returns what
@@ -96,9 +83,10 @@ impl<S: Store> DurableStore<S> {
         ensures table { self.new.table ≡ self.old.table }
         ensures clean { doubt (S.Store.view self.old.file).is_clean ≤ doubt (S.Store.view self.new.file).is_clean }
     {
-        let names = self.names_to_write(alloc, &cookie)?;
-        let stored = insert_received(&mut self.store, cookie, url, now)?;
-        self.write_if_stored(alloc, names, stored)
+        let mut changes = Vec::new(alloc);
+        let stored = self.stage_insertion(alloc, cookie, url, now, &mut changes)?;
+        self.commit_changes(changes.as_slice())?;
+        Ok(stored)
     }
 
     /// Removes and returns the cookie with this domain, path and name, expired or not, and commits
@@ -130,12 +118,9 @@ impl<S: Store> DurableStore<S> {
         ensures table { self.new.table ≡ self.old.table }
         ensures clean { doubt (S.Store.view self.old.file).is_clean ≤ doubt (S.Store.view self.new.file).is_clean }
     {
-        if self.is_failed {
-            return Err(DurableError::Failed);
-        }
-        let names = names_of(alloc, domain, path, name)?;
-        let removed = self.store.remove(domain, path, name);
-        self.write(alloc, names)?;
+        let mut changes = Vec::new(alloc);
+        let removed = self.stage_removal(alloc, domain, path, name, &mut changes)?;
+        self.commit_changes(changes.as_slice())?;
         Ok(removed)
     }
 
@@ -160,88 +145,8 @@ impl<S: Store> DurableStore<S> {
         ensures table { self.new.table ≡ self.old.table }
         ensures clean { doubt (S.Store.view self.old.file).is_clean ≤ doubt (S.Store.view self.new.file).is_clean }
     {
-        if self.is_failed {
-            return Err(DurableError::Failed);
-        }
-        let changes = deletions(alloc, &self.ids)?;
-        self.store.clear();
-        self.ids.clear();
-        self.is_failed = true;
-        match commit(&mut self.file, self.table, changes.as_slice()) {
-            Ok(()) => {
-                self.is_failed = false;
-                Ok(())
-            }
-            Err(error) => Err(DurableError::NotWritten(error)),
-        }
-    }
-
-    /// Commits the cookie of a key unless it was rejected, and returns `stored`.
-    pub(crate) fn write_if_stored<E>(
-        &mut self,
-        alloc: Global,
-        names: Names,
-        stored: Result<StoreAction, E>,
-    ) -> Result<Result<StoreAction, E>, DurableError>
-        requires { IsClean (S.Store.view self.old.file) → IsReady self.old.table (S.Store.view self.old.file) }
-        ensures ready { IsClean (S.Store.view self.new.file) → IsReady self.new.table (S.Store.view self.new.file) }
-        ensures saved { OnOk result (OnOk stored ((before : Contents) → Touches (key_in names) before self.old.store → IsClean (S.Store.view self.new.file)
-            → IsSaved before self.old.ids self.old.next self.old.table (S.Store.view self.old.file)
-            → IsSaved self.new.store self.new.ids self.new.next self.new.table (S.Store.view self.new.file))) }
-        ensures crash { OnOk stored ((before : Contents) → Touches (key_in names) before self.old.store → IsClean (S.Store.view self.new.file)
-            → IsSaved before self.old.ids self.old.next self.old.table (S.Store.view self.old.file)
-            → (db : Trees) → S.Store.recovers self.new.file db → S.Store.recovers self.old.file db ⊎ Holds self.old.store (db self.old.table)) }
-        ensures rejected { OnErr stored (self.new ≡ self.old) }
-        ensures reply { IfOk result (λ reply. reply ≡ stored) }
-        ensures ok { OnOk result (OnOk stored (self.new.is_failed ≡ false)) }
-        ensures err { OnErr result (self.new.is_failed ≡ true) }
-        ensures error { IfErr result IsNotWritten }
-        ensures store { self.new.store ≡ self.old.store }
-        ensures table { self.new.table ≡ self.old.table }
-        ensures clean { doubt (S.Store.view self.old.file).is_clean ≤ doubt (S.Store.view self.new.file).is_clean }
-    {
-        match stored {
-            Ok(action) => {
-                self.write(alloc, names)?;
-                Ok(Ok(action))
-            }
-            Err(rejection) => Ok(Err(rejection)),
-        }
-    }
-
-    /// Commits the cookie of a key as the store has it now, or its removal.
-    pub(crate) fn write(&mut self, alloc: Global, names: Names) -> Result<(), DurableError>
-        requires { IsClean (S.Store.view self.old.file) → IsReady self.old.table (S.Store.view self.old.file) }
-        ensures ready { IsClean (S.Store.view self.new.file) → IsReady self.new.table (S.Store.view self.new.file) }
-        ensures saved { OnOk result ((before : Contents) → Touches (key_in names) before self.old.store → IsClean (S.Store.view self.new.file)
-            → IsSaved before self.old.ids self.old.next self.old.table (S.Store.view self.old.file)
-            → IsSaved self.new.store self.new.ids self.new.next self.new.table (S.Store.view self.new.file)) }
-        ensures crash { (before : Contents) → Touches (key_in names) before self.old.store → IsClean (S.Store.view self.new.file)
-            → IsSaved before self.old.ids self.old.next self.old.table (S.Store.view self.old.file)
-            → (db : Trees) → S.Store.recovers self.new.file db → S.Store.recovers self.old.file db ⊎ Holds self.old.store (db self.old.table) }
-        ensures ok { OnOk result (self.new.is_failed ≡ false) }
-        ensures err { OnErr result (self.new.is_failed ≡ true) }
-        ensures error { IfErr result IsNotWritten }
-        ensures store { self.new.store ≡ self.old.store }
-        ensures table { self.new.table ≡ self.old.table }
-        ensures clean { doubt (S.Store.view self.old.file).is_clean ≤ doubt (S.Store.view self.new.file).is_clean }
-    {
-        self.is_failed = true;
-        let written = write_cookie(
-            alloc,
-            &self.store,
-            names,
-            &mut self.ids,
-            &mut self.next,
-            &mut self.file,
-            self.table,
-        );
-        match written {
-            Ok(()) => {
-                self.is_failed = false;
-                Ok(())
-            }
-            Err(error) => Err(DurableError::NotWritten(error)),
-        }
+        let mut changes = Vec::new(alloc);
+        self.stage_clear(alloc, &mut changes)?;
+        self.commit_changes(changes.as_slice())
     }
 }

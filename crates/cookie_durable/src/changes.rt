@@ -1,12 +1,15 @@
 //! Changes of the table for the cookies that changed.
-ghost use Rattle.std.specs.Prelude.{◌≡◌, None, map, option_map, IfOk, IfSome};
+ghost use Rattle.std.specs.Prelude.{◌≡◌, None, map, option_map, IfOk, IfSome, List, OnOk};
 ghost use Rattle.std.specs.List.{All};
 ghost use Rattle.std.specs.Map.{values_of};
 ghost use Rattle.std.specs.Option.{option_copied};
-ghost use Rattle.durable_table.specs.Changes.{HasRowid};
-ghost use Rattle.cookie_durable.specs.Numbering.{id_of, key_in, PutsCookie, SetsId, WritesCookie};
+ghost use Rattle.sqlite_value.specs.Order.{Row as TableRow};
+ghost use Rattle.cookie_laws.specs.Contents.{Contents};
+ghost use Rattle.durable_table.specs.Changes.{after, HasRowid};
+ghost use Rattle.cookie_durable.specs.Numbering.{id_of, key_in, IsNumbered, PutsCookie, SetsId, Touches, WritesCookie};
 
 use crate::numbering::{Ids, Names, id_for};
+use cookie_core::CookieStore;
 use cookie_forms::SavedError;
 use cookie_parts::Cookie;
 use cookie_table::to_row;
@@ -14,8 +17,30 @@ use durable_table::Change;
 use sqlite_trees::error::StoreError;
 use std::alloc::{AllocError, Global};
 
-/// Returns the change that writes the cookie, or deletes its row if the store has none.
-pub(crate) fn change_for(
+/// Adds to `changes` the change that writes the cookie with this key, or deletes its row if the store
+/// has none.
+pub(crate) fn add_change(
+    alloc: Global,
+    store: &CookieStore,
+    names: Names,
+    ids: &mut Ids,
+    next: &mut i64,
+    changes: &mut Vec<Change>,
+) -> Result<(), StoreError>
+    ensures numbered { OnOk result ((before : Contents) (rows : List TableRow) → Touches (key_in names) before store.now
+        → IsNumbered before ids.old.entries next.old (after changes.old.items rows)
+        → IsNumbered store.now ids.new.entries next.new (after changes.new.items rows)) }
+    ensures keyed { All HasRowid changes.old.items → All HasRowid changes.new.items }
+{
+    let cookie = store.get_any(names.0.as_str(), names.1.as_str(), names.2.as_str());
+    if let Some(change) = change_for(alloc, cookie, names, ids, next)? {
+        changes.push(change)?;
+    }
+    Ok(())
+}
+
+// Returns the change that writes the cookie, or deletes its row if the store has none.
+fn change_for(
     alloc: Global,
     cookie: Option<&Cookie<'static>>,
     names: Names,

@@ -5,15 +5,17 @@ use std::alloc::AllocError;
 /// Why a call of a [`DurableStore`](crate::DurableStore) failed.
 #[derive(Clone, Copy, Debug, PartialEq, Eq)]
 pub enum DurableError {
-    /// An earlier call returned `NotWritten`. Open the file again. Nothing has changed.
+    /// An earlier call returned `NotWritten`. Open the file again. The call changed nothing.
     Failed,
-    /// The table has no rowid left for a cookie. Nothing has changed.
+    /// The table has no rowid left for a cookie. The call changed nothing.
     Full,
-    /// The cookie has too long strings or a time before the year 0. Nothing has changed.
+    /// The cookie has too long strings or a time before the year 0. The call changed
+    /// nothing.
     Unstorable,
-    /// Out of memory. Nothing has changed.
+    /// Out of memory. The call changed nothing.
     OutOfMemory,
-    /// The call changed the cookies, and the change was not written, for this reason.
+    /// The call changed the cookies, and its commit failed for this reason: the change may be in the
+    /// file or not.
     NotWritten(StoreError),
 }
 

@@ -2,14 +2,17 @@
 //!
 //! Each call changes the cookies in memory and commits the change before it returns. After a crash
 //! the table has the cookies after the first calls: those that returned, and at most one more.
+//! [`apply_all`](DurableStore::apply_all) commits many calls together.
 #![tactic(auto)]
 
 mod applying;
 mod attaching;
+mod batching;
 mod calls;
 mod changes;
 mod checking;
 mod closing;
+mod committing;
 mod configuration;
 mod crashing;
 mod durable_error;
@@ -23,9 +26,9 @@ mod receiving;
 mod removing;
 mod replacing;
 mod sessions;
+mod staging;
 pub mod strict;
 mod sweeping;
-mod writing;
 
 pub use attaching::Leftover;
 pub use durable_error::DurableError;

@@ -1,22 +1,25 @@
 //! Removing expired cookies, or those that fail a test.
-ghost use Rattle.std.specs.Prelude.{◌≡◌, ◌⊎◌, ◌+◌, ◌≤◌, false, length, true, Bool, Err, IfErr, IfOk, IsTrue, OnErr, OnOk};
+ghost use Rattle.std.specs.Prelude.{◌≡◌, ◌⊎◌, ◌+◌, ◌≤◌, false, length, true, Bool, List, Err, IfErr, IfOk, IsTrue, OnErr, OnOk};
 ghost use Rattle.std.specs.Fn.{FnReturnsAt};
+ghost use Rattle.std.specs.List.{All};
 ghost use Rattle.cookie_words.specs.Moments.{moment_of};
 ghost use Rattle.cookie_parts.specs.Cookie.{Row};
-ghost use Rattle.sqlite_trees.specs.Tree.{Trees};
-ghost use Rattle.sqlite_trees.specs.View.{doubt, IsClean};
-ghost use Rattle.durable_table.specs.Transactions.{IsReady};
+ghost use Rattle.sqlite_value.specs.Order.{Row as TableRow};
+ghost use Rattle.sqlite_trees.specs.View.{doubt};
+ghost use Rattle.durable_table.specs.Changes.{after, HasRowid};
 ghost use Rattle.cookie_laws.specs.Contents.{retained, unexpired, Contents, ReturnsTest};
-ghost use Rattle.cookie_durable.specs.Durable.{ChangesTo, IsAtomic, IsInStep, IsNotWritten, IsSaved};
-ghost use Rattle.cookie_durable.specs.SavedTables.{Holds};
+ghost use Rattle.cookie_durable.specs.Durable.{ChangesTo, IsAtomic, IsInStep, IsNotWritten};
+ghost use Rattle.cookie_durable.specs.Numbering.{IsNumbered};
 ghost use Rattle.cookie_durable.specs.Sweeping.{Shrinks};
 
-use crate::writing::write_removals;
+use crate::sweeping::sweep;
 use crate::{DurableError, DurableStore};
 use cookie_parts::Cookie;
+use durable_table::Change;
 use jiff::civil::DateTime;
+use sqlite_trees::error::StoreError;
 use sqlite_trees::store::Store;
-use std::alloc::Global;
+use std::alloc::{AllocError, Global};
 
 impl<S: Store> DurableStore<S> {
     /// Removes the cookies that have expired at `now`, RFC 6265 5.3, commits the change and returns
@@ -45,7 +48,8 @@ impl<S: Store> DurableStore<S> {
             return Err(DurableError::Failed);
         }
         let removed = self.store.remove_expired(now);
-        self.commit_removals(alloc)?;
+        let deletions = self.sweep_rows(alloc)?;
+        self.commit_changes(deletions.as_slice())?;
         Ok(removed)
     }
 
@@ -83,41 +87,30 @@ impl<S: Store> DurableStore<S> {
             return Err(DurableError::Failed);
         }
         self.store.retain(keep);
-        self.commit_removals(alloc)?;
-        Ok(())
+        let deletions = self.sweep_rows(alloc)?;
+        self.commit_changes(deletions.as_slice())
     }
 
-    // Commits the removal of the cookies that the store no longer has.
-    fn commit_removals(&mut self, alloc: Global) -> Result<(), DurableError>
-        requires { IsClean (S.Store.view self.old.file) → IsReady self.old.table (S.Store.view self.old.file) }
-        ensures ready { IsClean (S.Store.view self.new.file) → IsReady self.new.table (S.Store.view self.new.file) }
-        ensures saved { OnOk result ((before : Contents) → Shrinks before self.old.store → IsClean (S.Store.view self.new.file)
-            → IsSaved before self.old.ids self.old.next self.old.table (S.Store.view self.old.file)
-            → IsSaved self.new.store self.new.ids self.new.next self.new.table (S.Store.view self.new.file)) }
-        ensures crash { (before : Contents) → Shrinks before self.old.store → IsClean (S.Store.view self.new.file)
-            → IsSaved before self.old.ids self.old.next self.old.table (S.Store.view self.old.file)
-            → (db : Trees) → S.Store.recovers self.new.file db → S.Store.recovers self.old.file db ⊎ Holds self.old.store (db self.old.table) }
+    // Returns the changes that delete the rows of the cookies that the store no longer has.
+    fn sweep_rows(&mut self, alloc: Global) -> Result<Vec<Change>, DurableError>
+        ensures numbered { IfOk result (λ deletions. (before : Contents) (rows : List TableRow) → Shrinks before self.old.store
+            → IsNumbered before self.old.ids self.old.next rows → IsNumbered self.new.store self.new.ids self.new.next (after deletions.items rows)) }
+        ensures keyed { IfOk result (λ deletions. All HasRowid deletions.items) }
         ensures ok { OnOk result (self.new.is_failed ≡ false) }
         ensures err { OnErr result (self.new.is_failed ≡ true) }
         ensures error { IfErr result IsNotWritten }
         ensures store { self.new.store ≡ self.old.store }
+        ensures file { self.new.file ≡ self.old.file }
         ensures table { self.new.table ≡ self.old.table }
-        ensures clean { doubt (S.Store.view self.old.file).is_clean ≤ doubt (S.Store.view self.new.file).is_clean }
     {
+        // failed until it succeeds: an error leaves the cookies ahead of their file
         self.is_failed = true;
-        let written = write_removals(
-            alloc,
-            &self.store,
-            &mut self.ids,
-            &mut self.file,
-            self.table,
-        );
-        match written {
-            Ok(()) => {
+        match sweep(alloc, &self.store, &mut self.ids) {
+            Ok(deletions) => {
                 self.is_failed = false;
-                Ok(())
+                Ok(deletions)
             }
-            Err(error) => Err(DurableError::NotWritten(error)),
+            Err(AllocError) => Err(DurableError::NotWritten(StoreError::OutOfMemory)),
         }
     }
 }

@@ -1,7 +1,7 @@
 //! The calls of `cookie_strict` on a durable store: insertion under the rules of browsers.
 //!
 //! A cookie that the rules allow is inserted as by the plain calls, and the change is committed.
-ghost use Rattle.std.specs.Prelude.{◌≡◌, ◌≢◌, ◌≤◌, false, Err, IfErr, IfOk, IfSome, IsTrue, None, Ok, Some};
+ghost use Rattle.std.specs.Prelude.{◌≡◌, ◌≢◌, ◌≤◌, false, Err, IfErr, IfOk, IfSome, IsTrue, None, Ok, OnOk, Some};
 ghost use Rattle.std.specs.Result.{result_ok};
 ghost use Rattle.cookie_words.specs.Moments.{moment_of};
 ghost use Rattle.sqlite_trees.specs.View.{doubt};
@@ -13,7 +13,7 @@ ghost use Rattle.cookie_strict.specs.HeaderValue.{draft_cookie};
 ghost use Rattle.cookie_strict.specs.StrictRuns.{response_call, store_after_call, strict_insertion, IsStrictReply};
 ghost use Rattle.cookie_strict.specs.declared.error.StrictError.TheVariants as strict_error;
 ghost use Rattle.cookie_durable.specs.Checks.{is_unstorable_at, IsReasonFor};
-ghost use Rattle.cookie_durable.specs.Durable.{ChangesTo, IsAtomic, IsInStep, IsNotWritten};
+ghost use Rattle.cookie_durable.specs.Durable.{ChangesTo, IsAtomic, IsInStep, IsNotWritten, IsStaged};
 ghost use Rattle.cookie_durable.specs.Numbering.{key_in};
 
 use crate::numbering::Names;
@@ -21,6 +21,7 @@ use crate::receiving::{insert_strictly, parse_draft, parse_strictly};
 use crate::{DurableError, DurableStore};
 use cookie_parts::{Cookie, CookieResult};
 pub use cookie_strict::{Context, StrictError, StrictResult};
+use durable_table::Change;
 use jiff::civil::DateTime;
 use sqlite_trees::store::Store;
 use std::alloc::Global;
@@ -59,16 +60,10 @@ pub fn parse_in_context<S: Store>(
     ensures table { durable.new.table ≡ durable.old.table }
     ensures clean { doubt (S.Store.view durable.old.file).is_clean ≤ doubt (S.Store.view durable.new.file).is_clean }
 {
-    if durable.is_failed {
-        return Err(DurableError::Failed);
-    }
-    let names = names_in_header(durable, alloc, text, url, now)?;
-    let stored = parse_strictly(&mut durable.store, text, url, context, now)?;
-    match names {
-        Some(names) => durable.write_if_stored(alloc, names, stored),
-        // rejected
-        None => Ok(stored),
-    }
+    let mut changes = Vec::new(alloc);
+    let stored = stage_response(durable, alloc, text, url, context, now, &mut changes)?;
+    durable.commit_changes(changes.as_slice())?;
+    Ok(stored)
 }
 
 /// Inserts a cookie received from `url` under the draft's rules and commits the change. Returns what
@@ -106,9 +101,82 @@ pub fn insert<S: Store>(
     ensures table { durable.new.table ≡ durable.old.table }
     ensures clean { doubt (S.Store.view durable.old.file).is_clean ≤ doubt (S.Store.view durable.new.file).is_clean }
 {
+    let mut changes = Vec::new(alloc);
+    let stored = stage_insertion(durable, alloc, cookie, url, now, &mut changes)?;
+    durable.commit_changes(changes.as_slice())?;
+    Ok(stored)
+}
+
+// Parses a header value, and inserts the cookie in memory under the draft's rules. Adds the change of
+// the table to `changes`.
+fn stage_response<S: Store>(
+    durable: &mut DurableStore<S>,
+    alloc: Global,
+    text: &str,
+    url: &Url,
+    context: Context,
+    now: DateTime,
+    changes: &mut Vec<Change>,
+) -> Result<StrictResult, DurableError>
+    requires { IsStaged durable.old changes.old.items (S.Store.view durable.old.file) }
+    ensures staged { IsStaged durable.new changes.new.items (S.Store.view durable.new.file) }
+    ensures works { OnOk result (durable.old.is_failed ≡ false) }
+    ensures reply { IfOk result (λ reply. IsStrictReply reply (response_call context text.now url.now (moment_of now) durable.old.store) durable.old.store) }
+    ensures memory { IfOk result (λ reply. reply ≢ Err (strict_error.Cookie Memory)) }
+    ensures change { ChangesTo result durable.old durable.new (store_after_call (response_call context text.now url.now (moment_of now) durable.old.store) durable.old.store) }
+    ensures failed { IsTrue durable.old.is_failed → result ≡ Err DurableError.Failed }
+    ensures reason { IfErr result (λ e. IsReasonFor e durable.old (is_unstorable_at (moment_of now)) (result_ok (draft_cookie text.now url.now (moment_of now)))) }
+    ensures file { durable.new.file ≡ durable.old.file }
+    ensures table { durable.new.table ≡ durable.old.table }
+{
+    if durable.is_failed {
+        return Err(DurableError::Failed);
+    }
+    let names = names_in_header(durable, alloc, text, url, now)?;
+    let stored = parse_strictly(&mut durable.store, text, url, context, now)?;
+    match names {
+        Some(names) => match stored {
+            Ok(action) => {
+                durable.stage_key(alloc, names, changes)?;
+                Ok(Ok(action))
+            }
+            Err(rejection) => Ok(Err(rejection)),
+        },
+        // rejected
+        None => Ok(stored),
+    }
+}
+
+// Inserts a received cookie in memory under the draft's rules. Adds the change of the table to
+// `changes`.
+fn stage_insertion<S: Store>(
+    durable: &mut DurableStore<S>,
+    alloc: Global,
+    cookie: Cookie<'static>,
+    url: &Url,
+    now: DateTime,
+    changes: &mut Vec<Change>,
+) -> Result<StrictResult, DurableError>
+    requires { IsStaged durable.old changes.old.items (S.Store.view durable.old.file) }
+    ensures staged { IsStaged durable.new changes.new.items (S.Store.view durable.new.file) }
+    ensures works { OnOk result (durable.old.is_failed ≡ false) }
+    ensures reply { IfOk result (λ reply. IsStrictReply reply (strict_insertion cookie.entry url.now (moment_of now) durable.old.store) durable.old.store) }
+    ensures memory { IfOk result (λ reply. reply ≢ Err (strict_error.Cookie Memory)) }
+    ensures change { ChangesTo result durable.old durable.new (store_after_call (strict_insertion cookie.entry url.now (moment_of now) durable.old.store) durable.old.store) }
+    ensures failed { IsTrue durable.old.is_failed → result ≡ Err DurableError.Failed }
+    ensures reason { IfErr result (λ e. IsReasonFor e durable.old (is_unstorable_at (moment_of now)) (Some cookie.entry)) }
+    ensures unstorable { durable.old.is_failed ≡ false → IsTrue (is_unstorable_at (moment_of now) cookie.entry) → result ≡ Err DurableError.Unstorable }
+    ensures file { durable.new.file ≡ durable.old.file }
+    ensures table { durable.new.table ≡ durable.old.table }
+{
     let names = durable.names_to_write_at(alloc, &cookie, now)?;
-    let stored = insert_strictly(&mut durable.store, cookie, url, now)?;
-    durable.write_if_stored(alloc, names, stored)
+    match insert_strictly(&mut durable.store, cookie, url, now)? {
+        Ok(action) => {
+            durable.stage_key(alloc, names, changes)?;
+            Ok(Ok(action))
+        }
+        Err(rejection) => Ok(Err(rejection)),
+    }
 }
 
 // Returns the domain, path and name of the cookie of a header value, if it is one, and checks whether

@@ -1,9 +1,10 @@
 //! A session whose cookies survive crashes, in the SQLite file that the argument names.
 //!
-//! Each line of standard input is a call: `set URL VALUE`, where `VALUE` is a `Set-Cookie` header
-//! value received from the URL, `remove DOMAIN PATH NAME`, `purge`, which removes expired cookies,
-//! or `clear`. What became of a call is printed once its change is committed. At the end the file
-//! is closed and opened again, and its cookies are printed.
+//! A line of standard input is a call: `set URL VALUE`, where `VALUE` is a `Set-Cookie` header value
+//! received from the URL, `remove DOMAIN PATH NAME`, `purge`, which removes expired cookies, or
+//! `clear`. The calls between the lines `begin` and `commit`, of which none is `purge`, are a batch:
+//! they are committed together. What became of a call is printed once its change is committed. At the
+//! end the file is closed and opened again, and its cookies are printed.
 #![tactic(auto)]
 
 ghost use Rattle.cookie_durable.specs.Durable.{IsInStep};
@@ -41,25 +42,68 @@ fn execute_lines<S: Store>(
     requires { IsInStep session.old (S.Store.view session.old.file) }
     ensures { IsInStep session.new (S.Store.view session.new.file) }
 {
+    let mut batch = None;
     for line in rt.lines(rt.alloc()) {
         let line = line?;
-        execute_line(rt, session, line.as_str(), now)?;
+        execute_line(rt, session, &mut batch, line.as_str(), now)?;
     }
-    Ok(())
+    match batch {
+        Some(_) => Err(Fail::new("begin without commit")),
+        None => Ok(()),
+    }
 }
 
-/// Executes the call of a line, and prints what became of it.
+/// Executes the call of a line, and prints what became of it. After `begin` it adds the call to a
+/// batch, which `commit` executes.
 fn execute_line<S: Store>(
     rt: &HostRuntime,
     session: &mut DurableStore<S>,
+    batch: &mut Option<Vec<Call>>,
     line: &str,
     now: DateTime,
 ) -> Result<(), Fail>
     requires { IsInStep session.old (S.Store.view session.old.file) }
     ensures { IsInStep session.new (S.Store.view session.new.file) }
 {
-    let outcome = execute(session, rt.alloc(), line, now)?;
-    println!(rt; "{outcome}")?;
+    match line {
+        "begin" if batch.is_none() => *batch = Some(Vec::new(rt.alloc())),
+        "commit" => {
+            let calls = batch.take().ok_or("commit without begin")?;
+            execute_batch(rt, session, calls)?;
+        }
+        _ => match batch {
+            Some(calls) => calls.push(call_of(rt.alloc(), line, now)?)?,
+            None => {
+                let outcome = execute(session, rt.alloc(), line, now)?;
+                println!(rt; "{outcome}")?;
+            }
+        },
+    }
+    Ok(())
+}
+
+/// Executes the calls of a batch, commits their changes together, and prints what became of each.
+fn execute_batch<S: Store>(
+    rt: &HostRuntime,
+    session: &mut DurableStore<S>,
+    calls: Vec<Call>,
+) -> Result<(), Fail>
+    requires { IsInStep session.old (S.Store.view session.old.file) }
+    ensures { IsInStep session.new (S.Store.view session.new.file) }
+{
+    let (replies, executed) = session.apply_all(rt.alloc(), calls);
+    if !session.is_failed() {
+        print_replies(rt, replies.as_slice())?;
+    }
+    executed?;
+    Ok(())
+}
+
+/// Prints what became of calls, a line for each.
+fn print_replies(rt: &HostRuntime, replies: &[Reply]) -> Result<(), Fail> {
+    for reply in replies {
+        println!(rt; "{}", text_of(reply))?;
+    }
     Ok(())
 }
 

@@ -1,4 +1,4 @@
-use Rattle.std.proofs.Common.{◌≡◌, ◌∙◌, ◌+◌, ap, refl, sym, [], ◌∷◌, ◌++◌, ⊎_elim, inl, inr, length, map, append_assoc, arith}
+use Rattle.std.proofs.Common.{true≢false, ◌≡◌, ◌∙◌, ◌+◌, ap, refl, sym, [], ◌∷◌, ◌++◌, ⊎_elim, inl, inr, length, map, append_assoc, arith}
 use Rattle.std.proofs.Math.Nat.{le_trans}
 use Rattle.std.proofs.lemmas.List.{length-append, length-map, map-append}
 use Rattle.cookie_core.specs.CallViews.{call_view, reply_view}
@@ -35,6 +35,7 @@ loop-call-preserved g c =
           ∙ sym (store_after_more calls call store) ∙ ap (λ cs. store_after cs store) (sym more);
       in_step = c.apply.ensures.in_step;
       works = c.in-Ok-apply.ensures.change.1 ∙ begun.works;
+      failed = λ failed. absurd (true≢false (sym (begun.works ∙ failed) ∙ c.in-Ok-apply.ensures.works));
       table = c.apply.ensures.table ∙ begun.table;
       clean = omega (arith, begun.clean, c.apply.ensures.clean);
       all =

@@ -1,5 +1,5 @@
 -- The replies and the store are those of the calls so far, which are committed, and there is room for the remaining replies.
-use Rattle.std.proofs.Common.{◌≡◌, ◌++◌, ◌≤◌, length, map}
+use Rattle.std.proofs.Common.{◌≡◌, ◌++◌, ◌≤◌, [], IsTrue, length, map}
 use Rattle.std.specs.Vec.{vec_capacity, vec_len}
 use Rattle.std.specs.Vec.Iter.{into_iter_items}
 use Rattle.sqlite_trees.specs.View.{doubt}
@@ -18,6 +18,7 @@ invariant-loop-call g l =
       store : l.self.store ≡ store_after (map call_view l.yielded) l.fn.self.store;
       in_step : IsInStep l.self (view l.self.file);
       works : l.self.is_failed ≡ l.fn.self.is_failed;
+      failed : IsTrue l.fn.self.is_failed → (l.self ≡ l.fn.self) × (l.replies.items ≡ []);
       table : l.self.table ≡ l.fn.self.table;
       clean : doubt (view l.fn.self.file).is_clean ≤ doubt (view l.self.file).is_clean;
       all : l.yielded ++ into_iter_items l.call-iterator ≡ l.fn.calls.items;

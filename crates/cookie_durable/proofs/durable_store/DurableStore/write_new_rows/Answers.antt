@@ -24,7 +24,7 @@ changes g c =
 before : (g : Over) (c : After-commit g) → IsClean (g.S.Store.view c.commit.new.store)
     → IsSaved c.self.inside.store c.self.inside.ids.entries c.self.inside.next c.self.inside.table (g.S.Store.view c.self.inside.file)
 before g c clean =
-    saved_before g.S.Store.view g.S.Store.recovers _ _ c.self.view_is c.requires c.if-self.false c.commit.new.store c.commit.ensures.clean clean
+    saved_before g.S.Store.view _ _ c.self.view_is c.requires c.if-self.false c.commit.new.store c.commit.ensures.clean clean
 
 -- a crash leaves the table as it was, or with the rows of the cookies
 crash : (g : Over) (c : After-commit g) → IsClean (g.S.Store.view c.commit.new.store) → (db : Trees) → g.S.Store.recovers c.commit.new.store db
