@@ -16,7 +16,7 @@ import time
 
 from bench_parts import programs, report
 from bench_parts.built import built
-from bench_parts.measure import GNU_TIME, has_gnu_time, has_valgrind, instructions
+from bench_parts.measure import GNU_TIME, Runs, has_gnu_time, has_valgrind, instructions, settle
 from common import processor_seconds, read, stop
 
 OPTIONS = ['--lists']
@@ -112,21 +112,37 @@ def peak(command, folder):
     return int(done.stderr.split()[-1]) * 1024
 
 
+def times(all_commands, folder, cookies):
+    """Microseconds of a load and of a save, for each program."""
+    all_runs = [Runs(lambda commands=commands: [processor_seconds(commands[part], cwd=folder) for part in SAVES]) for commands in all_commands]
+    settle(all_runs)
+    for runs in all_runs:
+        load, both = (seconds * 1e6 / cookies for seconds in runs.best)
+        yield [load, both - load]
+
+
 def figures(commands, folder, form, cookies):
-    """The cells of a program: microseconds and instructions of a load and of a save, and bytes of both."""
-    cells = []
-    for measure, scale in ((processor_seconds, 1e6), (instructions, 1)):
-        if measure is instructions and not has_valgrind():
-            cells += ['-', '-']
-            continue
-        load, both = (measure(commands[part], cwd=folder) * scale / cookies for part in SAVES)
-        cells += [load, both - load]
-    if not has_gnu_time():
-        return [*cells, '-']
-    WRITERS[form](os.path.join(folder, f'list.{form}'), 1)
-    least = peak(commands['both'], folder)
-    WRITERS[form](os.path.join(folder, f'list.{form}'), cookies)
-    return [*cells, (peak(commands['both'], folder) - least) / cookies]
+    """Instructions of a load and of a save of a program, and bytes of both."""
+    cells: list = ['-'] * 3
+    if has_valgrind():
+        load, both = (instructions(commands[part], cwd=folder) / cookies for part in SAVES)
+        cells[:2] = [load, both - load]
+    if has_gnu_time():
+        WRITERS[form](os.path.join(folder, f'list.{form}'), 1)
+        least = peak(commands['both'], folder)
+        WRITERS[form](os.path.join(folder, f'list.{form}'), cookies)
+        cells[2] = (peak(commands['both'], folder) - least) / cookies
+    return cells
+
+
+def measured(found, peer, folder, form, cookies):
+    """The cells of each program by its name."""
+    commands = {'cookie_store': {part: [found[f'{part}_{form}']] for part in SAVES}}
+    if peer:
+        load = [*peer.command, f'list.{form}']
+        commands[peer.name] = {'load': load, 'both': [*load, f'peer.{form}']}
+    timed = dict(zip(commands, times(commands.values(), folder, cookies)))
+    return {name: [*timed[name], *figures(commands[name], folder, form, cookies)] for name in commands}
 
 
 def ahead(list_name, cells, theirs):
@@ -161,16 +177,13 @@ def run(options):
         for cookies in options.COOKIES:
             for form, writer in WRITERS.items():
                 writer(os.path.join(folder, f'list.{form}'), cookies)
-                own = {part: [found[f'{part}_{form}']] for part in SAVES}
-                cells = figures(own, folder, form, cookies)
-                print(row(cookies, form, 'cookie_store', cells), flush=True)
+                rows = measured(found, peer, folder, form, cookies)
+                for name, cells in rows.items():
+                    print(row(cookies, form, name, cells), flush=True)
                 if peer:
-                    load_list = [*peer.command, f'list.{form}']
-                    theirs = figures({'load': load_list, 'both': [*load_list, f'peer.{form}']}, folder, form, cookies)
-                    print(row(cookies, form, programs.RUST, theirs), flush=True)
-                    behind += ahead(f'{cookies:,} cookies in {form.upper()}', cells, theirs)
-            times = [seconds / cookies * 1e6 for seconds in python(folder)]
-            print(row(cookies, 'json', "Python's json", [*times, '-', '-', '-']), flush=True)
+                    behind += ahead(f'{cookies:,} cookies in {form.upper()}', *rows.values())
+            took = [seconds / cookies * 1e6 for seconds in python(folder)]
+            print(row(cookies, 'json', "Python's json", [*took, '-', '-', '-']), flush=True)
             if not is_same(folder, 'saved.json', 'python.json') or not is_same(folder, 'list.ron', 'saved.ron'):
                 stop('another list was saved than was loaded')
     report.exit_after(behind, load)

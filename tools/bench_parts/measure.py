@@ -52,25 +52,44 @@ def instructions(command, **options):
     return int(first_match(rb'Collected : (\d+)', done.stderr)[1])
 
 
-class Series:
-    """Runs of a program on the base and on the script of a task."""
+class Runs:
+    """Runs that are repeated, and the least time of each of their parts."""
 
-    def __init__(self, program, task, count, paths):
-        self.program, self.task, self.count, self.paths = program, task, count, paths
-        self.best: list[float] = [float('inf')] * 2
-        self.spent, self.runs, self.fell = 0.0, 0, 0
+    def __init__(self, once):
+        self.once = once  # the seconds of each part of one run
+        self.best: list[float] = []
+        self.spent, self.count, self.fell = 0.0, 0, 0
 
     def run(self):
-        took = [seconds(self.program, path, self.task.arguments) for path in self.paths]
+        took = self.once()
+        self.best = self.best or [float('inf')] * len(took)
         self.spent += sum(took)
-        self.runs += 1
+        self.count += 1
         if any(seconds < best * (1 - FALL) for seconds, best in zip(took, self.best)):
-            self.fell = self.runs
+            self.fell = self.count
         self.best = [min(times) for times in zip(self.best, took)]
 
     def is_settled(self):
         """Whether the last runs were no faster than those before."""
-        return self.spent >= BUDGET or self.runs >= self.fell + RUNS - 1
+        return self.spent >= BUDGET or self.count >= self.fell + RUNS - 1
+
+
+def settle(all_runs):
+    """Runs each in turn, until all have settled: a machine may be slow whenever one of them runs."""
+    for count in range(MOST_RUNS):
+        if count >= RUNS and all(runs.is_settled() for runs in all_runs):
+            break
+        for runs in all_runs:
+            if runs.count <= count and runs.spent < BUDGET:
+                runs.run()
+
+
+class Series(Runs):
+    """Runs of a program on the base and on the script of a task."""
+
+    def __init__(self, program, task, repeats, paths):
+        super().__init__(lambda: [seconds(program, path, task.arguments) for path in paths])
+        self.program, self.task, self.repeats, self.paths = program, task, repeats, paths
 
     def is_long(self, target):
         """Whether the operations take `target` seconds, and enough beside the base to tell them apart."""
@@ -79,7 +98,7 @@ class Series:
 
     def seconds(self):
         base, script = self.best
-        return (script - base) / self.count / self.task.units
+        return (script - base) / self.repeats / self.task.units
 
     def remove(self):
         for path in self.paths:
@@ -104,18 +123,18 @@ class Meter:
         """Seconds of one operation by program name: the best of interleaved runs, less the base.
 
         Each program repeats the operation until it takes about `target` seconds. All run on while the last runs of one are faster
-        than those before: a machine may be slow whenever one of them runs.
+        than those before, and begin again with more operations if those of one took less than that in the end.
         """
-        all_series = [self._series(program, task, target) for program in programs]
-        for run in range(1, MOST_RUNS):
-            if run >= RUNS and all(series.is_settled() for series in all_series):
-                break
+        least = {program.name: 1 for program in programs}
+        while True:
+            all_series = [self._series(program, task, target, least[program.name]) for program in programs]
+            settle(all_series)
             for series in all_series:
-                if series.runs <= run and series.spent < BUDGET:
-                    series.run()
-        for series in all_series:
-            series.remove()
-        return {series.program.name: series.seconds() for series in all_series}
+                series.remove()
+            short = [series for series in all_series if not series.is_long(target) and series.repeats * 4 <= task.most]
+            if not short:
+                return {series.program.name: series.seconds() for series in all_series}
+            least |= {series.program.name: series.repeats * 4 for series in short}
 
     def once(self, program, script):
         """The seconds of one run."""
@@ -140,18 +159,18 @@ class Meter:
         with self._written(script) as path, open(path) as lines:
             return instructions(program.command, stdin=lines)
 
-    def _series(self, program, task, target):
-        """A series whose count is great enough, with its first runs."""
-        count = 1
+    def _series(self, program, task, target, least):
+        """A series with as many operations as are enough, at least `least`, and its first runs."""
+        repeats = least
         while True:
-            series = Series(program, task, count, [self._write(task.base(count)), self._write(task.script(count))])
+            series = Series(program, task, repeats, [self._write(task.base(repeats)), self._write(task.script(repeats))])
             series.run()
             if series.is_long(target):
                 series.run()  # the first may have been slow by chance
-            if series.is_long(target) or count * 4 > task.most:
+            if series.is_long(target) or repeats * 4 > task.most:
                 return series
             series.remove()
-            count *= 4
+            repeats *= 4
 
     def _given(self, program, script):
         """The number of cookies in each Cookie header that the program prints."""

@@ -53,7 +53,7 @@ impl<S: Store> DurableStore<S> {
     {
         let mut changes = Vec::new(alloc);
         let (replies, staged) = self.stage_calls(alloc, calls, &mut changes);
-        // the last call has no reply, and its change may be missing
+        // a call changed the cookies, and its change is not in the list: none is committed
         if self.is_failed {
             return (replies, staged);
         }

@@ -9,6 +9,7 @@ ghost use Rattle.cookie_durable.specs.Durable.{IsInStep};
 
 use crate::attaching::{Leftover, attach};
 use crate::{DurableStore, OpenError};
+use cookie_rows::{HashKey, StoreAlloc};
 use sqlite_disk::{Disk, Files, Start};
 use sqlite_pager::Options;
 use sqlite_std_file::FileFrom;
@@ -27,8 +28,8 @@ impl<D: Disk> DurableStore<FileStore<D>> {
     /// # Errors
     ///
     /// Those of [`open_path`](DurableStore::open_path) from `Foreign` on.
-    pub fn open_files(
-        alloc: Global,
+    pub fn open_files<A: Into<StoreAlloc>>(
+        alloc: A,
         files: Files<D>,
         options: Options,
         keep_session: bool,
@@ -41,7 +42,8 @@ impl<D: Disk> DurableStore<FileStore<D>> {
         ensures guarded { IfOk result (λ d. IsClean (view d.file) → is_shielded d.file) }
         ensures unharmed { IfErr result (λ e. IsCleanLeft e.1 → LeavesFiles keep_session files e.1) }
     {
-        let store = match attach(alloc, files, options) {
+        let alloc: StoreAlloc = alloc.into();
+        let store = match attach(alloc.alloc, files, options) {
             Ok(store) => store,
             Err(left) => return Err(left),
         };
@@ -56,8 +58,9 @@ impl<S: Start> DurableStore<FileStore<FileFrom<S>>> {
     /// Opens the SQLite file at `path`, which is locked until the store is dropped. If `keep_session`
     /// is false, the session cookies are removed first, in one commit.
     ///
-    /// A missing file is created with the mode 0600. A file without a table gets an empty one.
-    /// `start` stands for what the file and its log hold: pass [`Unknown`](sqlite_disk::Unknown).
+    /// A missing file is created with the mode 0600. A file without a table gets an empty one. The
+    /// maps of the store hash by a random key. `start` stands for what the file and its log hold: pass
+    /// [`Unknown`](sqlite_disk::Unknown).
     ///
     /// # Errors
     ///
@@ -84,10 +87,15 @@ impl<S: Start> DurableStore<FileStore<FileFrom<S>>> {
         ensures found { IfOk result (λ d. IsClean (view d.file) → FindsCookies keep_session (image_at S.Start) d.store) }
         ensures guarded { IfOk result (λ d. IsClean (view d.file) → is_shielded d.file) }
     {
-        let options = options(rt)?;
+        let key = random_key(rt)?;
         make_private(rt, path)?;
         let files = sqlite_std_file::open(rt, path, start)?;
-        let opened = DurableStore::open_files(rt.alloc(), files, options, keep_session);
+        let alloc = StoreAlloc {
+            alloc: rt.alloc(),
+            hash_key: HashKey::Random(key),
+        };
+        let options = Options::new(key.hash_one(&0u8));
+        let opened = DurableStore::open_files(alloc, files, options, keep_session);
         without_leftover(opened)
     }
 }
@@ -116,10 +124,10 @@ fn make_private(rt: &HostRuntime, path: &str) -> Result<(), OpenError> {
     }
 }
 
-// Returns the options of the kit, with a random seed for the salts of the log.
-fn options(rt: &HostRuntime) -> Result<Options, OpenError> {
+// Returns a random key, for the maps of the store and the salts of the log.
+fn random_key(rt: &HostRuntime) -> Result<RandomState, OpenError> {
     match RandomState::new(rt) {
-        Ok(state) => Ok(Options::new(state.hash_one(&0u8))),
+        Ok(key) => Ok(key),
         Err(error) => Err(OpenError::of_system(error.kind())),
     }
 }

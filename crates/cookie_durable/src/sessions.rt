@@ -9,6 +9,7 @@ ghost use Rattle.cookie_durable.specs.SavedTables.{Holds};
 ghost use Rattle.cookie_durable.specs.Sessions.{deletion, kept_rows, session_deletions, KeepsRows};
 
 use crate::{DurableStore, OpenError};
+use cookie_rows::StoreAlloc;
 use durable_table::{Change, commit};
 use sqlite_trees::store::{Direction, Store};
 use sqlite_value::row::Row;
@@ -25,8 +26,8 @@ impl<S: Store> DurableStore<S> {
     /// # Errors
     ///
     /// Those of `open`. Nothing is removed from a table with a row that cannot be loaded.
-    pub fn open_kept(
-        alloc: Global,
+    pub fn open_kept<A: Into<StoreAlloc>>(
+        alloc: A,
         file: S,
         table: u32,
         keep_session: bool,
@@ -40,6 +41,7 @@ impl<S: Store> DurableStore<S> {
         ensures kept { IfOk result (λ d. KeepsRows S.Store.view S.Store.recovers S.Store.is_shielded table keep_session file d.file) }
         ensures unharmed { IfErr result (λ e. KeepsRows S.Store.view S.Store.recovers S.Store.is_shielded table keep_session file e.1) }
     {
+        let alloc: StoreAlloc = alloc.into();
         let opened = match DurableStore::open(alloc, file, table) {
             Ok(opened) => opened,
             Err(left) => return Err(left),
@@ -51,7 +53,7 @@ impl<S: Store> DurableStore<S> {
     }
 
     // Removes the session cookies from the table that was just opened.
-    fn without_session(self, alloc: Global) -> Result<DurableStore<S>, (OpenError, S)>
+    fn without_session(self, alloc: StoreAlloc) -> Result<DurableStore<S>, (OpenError, S)>
         requires in_step { IsInStep self (S.Store.view self.file) }
         requires works { self.is_failed ≡ false }
         requires loaded { IsClean (S.Store.view self.file) → Holds self.store ((S.Store.view self.file).committed self.table) }
@@ -64,7 +66,7 @@ impl<S: Store> DurableStore<S> {
     {
         let mut opened = self;
         let table = opened.table;
-        match remove_sessions(alloc, &mut opened.file, table) {
+        match remove_sessions(alloc.alloc, &mut opened.file, table) {
             Ok(false) => Ok(opened),
             Ok(true) => DurableStore::open(alloc, opened.into_file(), table),
             Err(error) => Err((error, opened.into_file())),

@@ -13,6 +13,8 @@ mod checks;
 #[cfg(test)]
 mod devices;
 #[cfg(test)]
+mod durable;
+#[cfg(test)]
 mod edits;
 #[cfg(test)]
 mod formats;
