@@ -1,10 +1,10 @@
 """Measures lists of saved cookies: loads a list of each number of COOKIES, in JSON and in RON, and saves it again.
 Usage: tools/bench lists [--lists FOLDER] COOKIES..
 
-Prints a table: for loading, and for saving what was loaded, microseconds of processor time and instructions per cookie,
-and for both together the bytes per cookie at the peak of resident memory, beside those of the Rust crate, with
-serde_json and with ron, and of Python's json, which makes no store. The programs are proved and built in a copy of the
-repository, in ten minutes.
+Prints a table: for loading, and for saving what was loaded, microseconds of processor time, in the least of some runs
+in turn, and instructions per cookie, and for both together the bytes per cookie at the peak of resident memory, beside
+those of the Rust crate, with serde_json and with ron, and of Python's json, which makes no store. The programs are
+proved and built in a copy of the repository, in ten minutes.
 
 Exit status: 0; 1 if a program fails or is not proved, or saves another list, or if the Rust crate is ahead on an idle
 machine, or needs less memory by more than a sixth."""
@@ -112,13 +112,16 @@ def peak(command, folder):
     return int(done.stderr.split()[-1]) * 1024
 
 
-def times(all_commands, folder, cookies):
-    """Microseconds of a load and of a save, for each program."""
-    all_runs = [Runs(lambda commands=commands: [processor_seconds(commands[part], cwd=folder) for part in SAVES]) for commands in all_commands]
-    settle(all_runs)
-    for runs in all_runs:
-        load, both = (seconds * 1e6 / cookies for seconds in runs.best)
-        yield [load, both - load]
+def times(commands, folder, cookies):
+    """Microseconds of a load and of a save by each program: a save is what both take less a load."""
+    def runs(of_program):
+        return Runs(lambda: [processor_seconds(of_program[part], cwd=folder) for part in SAVES])
+
+    measured = {name: runs(of_program) for name, of_program in commands.items()}
+    settle(measured.values())
+    for name, each in measured.items():
+        load, both = (seconds * 1e6 / cookies for seconds in each.best)
+        yield name, [load, both - load]
 
 
 def figures(commands, folder, form, cookies):
@@ -141,14 +144,13 @@ def measured(found, peer, folder, form, cookies):
     if peer:
         load = [*peer.command, f'list.{form}']
         commands[peer.name] = {'load': load, 'both': [*load, f'peer.{form}']}
-    timed = dict(zip(commands, times(commands.values(), folder, cookies)))
-    return {name: [*timed[name], *figures(commands[name], folder, form, cookies)] for name in commands}
+    return {name: [*took, *figures(commands[name], folder, form, cookies)] for name, took in times(commands, folder, cookies)}
 
 
 def ahead(list_name, cells, theirs):
     """Warnings of the figures in which the Rust crate is ahead."""
     for name, own, other in zip(COLUMNS, cells, theirs):
-        if not isinstance(own, str):
+        if not isinstance(own, str) and own > 0:
             allowed = MOST_MEMORY if name == 'bytes' else 1
             yield from report.behind(f'{list_name}, {name}', programs.RUST, other * allowed / own)
 

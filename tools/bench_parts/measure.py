@@ -11,6 +11,7 @@ from common import first_match, processor_seconds, stop
 
 GNU_TIME = '/usr/bin/time'
 RUNS, MOST_RUNS = 5, 15
+ENOUGH = 0.8  # the part of a target that the best run of a series must take
 FALL = 0.05  # the part of a least time by which a later run is less, if that time was by chance
 BUDGET = 15.0  # seconds of a series after which no further run begins
 
@@ -58,30 +59,30 @@ class Runs:
     def __init__(self, once):
         self.once = once  # the seconds of each part of one run
         self.best: list[float] = []
-        self.spent, self.count, self.fell = 0.0, 0, 0
+        self.spent, self.runs, self.fell = 0.0, 0, 0
 
     def run(self):
         took = self.once()
         self.best = self.best or [float('inf')] * len(took)
         self.spent += sum(took)
-        self.count += 1
+        self.runs += 1
         if any(seconds < best * (1 - FALL) for seconds, best in zip(took, self.best)):
-            self.fell = self.count
+            self.fell = self.runs
         self.best = [min(times) for times in zip(self.best, took)]
 
     def is_settled(self):
         """Whether the last runs were no faster than those before."""
-        return self.spent >= BUDGET or self.count >= self.fell + RUNS - 1
+        return self.spent >= BUDGET or self.runs >= self.fell + RUNS - 1
 
 
-def settle(all_runs):
+def settle(measured):
     """Runs each in turn, until all have settled: a machine may be slow whenever one of them runs."""
-    for count in range(MOST_RUNS):
-        if count >= RUNS and all(runs.is_settled() for runs in all_runs):
+    for run in range(MOST_RUNS):
+        if run >= RUNS and all(each.is_settled() for each in measured):
             break
-        for runs in all_runs:
-            if runs.count <= count and runs.spent < BUDGET:
-                runs.run()
+        for each in measured:
+            if each.runs <= run and each.spent < BUDGET:
+                each.run()
 
 
 class Series(Runs):
@@ -91,10 +92,14 @@ class Series(Runs):
         super().__init__(lambda: [seconds(program, path, task.arguments) for path in paths])
         self.program, self.task, self.repeats, self.paths = program, task, repeats, paths
 
-    def is_long(self, target):
-        """Whether the operations take `target` seconds, and enough beside the base to tell them apart."""
+    def is_long(self, target, part=1.0):
+        """Whether the operations take `target` seconds, and enough beside the base to tell them apart; or this part of that."""
         base, script = self.best
-        return script - base >= max(target, base / 2)
+        return script - base >= max(target, base / 2) * part
+
+    def is_short(self, target):
+        """Whether the operations took less in the end, and there can be more of them."""
+        return not self.is_long(target, ENOUGH) and self.spent < BUDGET and self.repeats * 4 <= self.task.most
 
     def seconds(self):
         base, script = self.best
@@ -123,7 +128,7 @@ class Meter:
         """Seconds of one operation by program name: the best of interleaved runs, less the base.
 
         Each program repeats the operation until it takes about `target` seconds. All run on while the last runs of one are faster
-        than those before, and begin again with more operations if those of one took less than that in the end.
+        than those before. If the best run of one is too short, all begin again, and that one repeats it four times as often.
         """
         least = {program.name: 1 for program in programs}
         while True:
@@ -131,10 +136,9 @@ class Meter:
             settle(all_series)
             for series in all_series:
                 series.remove()
-            short = [series for series in all_series if not series.is_long(target) and series.repeats * 4 <= task.most]
-            if not short:
+            if not any(series.is_short(target) for series in all_series):
                 return {series.program.name: series.seconds() for series in all_series}
-            least |= {series.program.name: series.repeats * 4 for series in short}
+            least = {series.program.name: series.repeats * (4 if series.is_short(target) else 1) for series in all_series}
 
     def once(self, program, script):
         """The seconds of one run."""

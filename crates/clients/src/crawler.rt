@@ -2,10 +2,11 @@
 //! cookies for a public suffix.
 use crate::urls::url_of;
 use cookie_store::psl::{List, ListError};
-use cookie_store::{CookieError, CookieStore, Error};
+use cookie_store::{CookieError, CookieStore, Error, HashKey};
 use jiff::civil::{DateTime, date};
 use std::alloc::Global;
 use std::fs;
+use std::hash::RandomState;
 use url::Url;
 
 /// The file of the public suffix list.
@@ -36,14 +37,16 @@ struct Crawler {
 }
 
 impl Crawler {
-    /// Creates a crawler without cookies, under the public suffix list of the file.
+    /// Creates a crawler without cookies, under the public suffix list of the file. Its maps hash by a
+    /// random key, since any server may choose the names of cookies.
     fn new(rt: &HostRuntime) -> Result<Crawler, Error> {
         let alloc = rt.alloc();
         let text = fs::read_to_string(rt, FILE).map_err(|_| Error::Io)?;
         let list = list_of(alloc, text.as_str())?;
-        Ok(Crawler {
-            store: CookieStore::new_with_public_suffix(alloc, Some(list)),
-        })
+        let key = RandomState::new(rt).map_err(|_| Error::Io)?;
+        let mut store = CookieStore::with_hash_key(alloc, HashKey::Random(key));
+        store.set_suffix_list(list);
+        Ok(Crawler { store })
     }
 
     /// Returns the value of the `Cookie` header of a request for the page, if there is one.

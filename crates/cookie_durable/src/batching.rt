@@ -53,7 +53,7 @@ impl<S: Store> DurableStore<S> {
     {
         let mut changes = Vec::new(alloc);
         let (replies, staged) = self.stage_calls(alloc, calls, &mut changes);
-        // a call changed the cookies, and its change is not in the list: none is committed
+        // the store had failed, or a call changed the cookies and its change is not in the list
         if self.is_failed {
             return (replies, staged);
         }

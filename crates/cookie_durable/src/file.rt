@@ -23,7 +23,8 @@ use std::rt::HostRuntime;
 
 impl<D: Disk> DurableStore<FileStore<D>> {
     /// Opens a database file and its log. Files without a table get an empty one. If `keep_session`
-    /// is false, the session cookies are removed first, in one commit.
+    /// is false, the session cookies are removed first, in one commit. The maps of the store hash by
+    /// the key of `alloc`.
     ///
     /// # Errors
     ///
@@ -88,13 +89,14 @@ impl<S: Start> DurableStore<FileStore<FileFrom<S>>> {
         ensures guarded { IfOk result (λ d. IsClean (view d.file) → is_shielded d.file) }
     {
         let key = random_key(rt)?;
-        make_private(rt, path)?;
-        let files = sqlite_std_file::open(rt, path, start)?;
         let alloc = StoreAlloc {
             alloc: rt.alloc(),
             hash_key: HashKey::Random(key),
         };
+        // the seed of the log's salts: a hash does not tell its key
         let options = Options::new(key.hash_one(&0u8));
+        make_private(rt, path)?;
+        let files = sqlite_std_file::open(rt, path, start)?;
         let opened = DurableStore::open_files(alloc, files, options, keep_session);
         without_leftover(opened)
     }

@@ -21,7 +21,8 @@ const EXPIRY: usize = 8;
 
 impl<S: Store> DurableStore<S> {
     /// Loads the cookies of a table, as [`open`](Self::open) does. If `keep_session` is false, the
-    /// session cookies of the table are removed first, in one commit.
+    /// session cookies of the table are removed first, in one commit. The maps of the store hash by the
+    /// key of `alloc`.
     ///
     /// # Errors
     ///

@@ -1,25 +1,26 @@
-//! Calls of a durable store: each change is in the files when they are opened again.
-ghost use Rattle.std.specs.Prelude.{IfOk};
+//! Calls of a durable store over files in memory: each change is there when they are opened again.
 ghost use Rattle.sqlite_store.specs.FileStore.{view};
 ghost use Rattle.cookie_durable.specs.Durable.{IsInStep};
 
 use crate::built::cookie;
 use crate::checks::{is_equal, is_text};
-use crate::steps::{list, new_year};
+use crate::steps::{EXPIRED, INSERTED, UPDATED, list, new_year};
 use crate::texts::{push_cookies, url};
-use cookie_durable::strict::{self, Context};
+use cookie_durable::strict::{self, Context, StrictError, StrictResult};
 use cookie_durable::{DurableError, DurableStore};
-use cookie_store::{Call, Cookie};
+use cookie_store::{
+    Call, Cookie, CookieError, HashKey, InsertResult, Reply, StoreAction, StoreAlloc,
+};
 use sqlite_disk::{Files, Memory};
 use sqlite_pager::Options;
 use sqlite_store::FileStore;
 use sqlite_trees::store::Store;
 use std::alloc::Global;
+use std::hash::RandomState;
 use std::process::Abort;
+use std::test::Fail;
 
 const FROM: &str = "https://shop.example/";
-
-const MANY: usize = 3000;
 
 const CROSS_SITE: Context = Context {
     is_same_site: false,
@@ -28,44 +29,63 @@ const CROSS_SITE: Context = Context {
     is_lax_by_default: true,
 };
 
-// A call. A cookie is a `Set-Cookie` value received from `FROM`.
+// How many cookies are inserted at once, and how long the value of each is: more than a page.
+const MANY: usize = 600;
+
+const LONG: usize = 5000;
+
+// A call, and what it returns. A cookie is a `Set-Cookie` value received from `FROM`.
 #[derive(Clone, Copy, Debug)]
 enum Change {
-    Parse(&'static str),
-    Insert(&'static str),
-    ParseCrossSite(&'static str),
-    InsertStrictly(&'static str),
-    Apply(&'static str),
-    ApplyEach([&'static str; 2]),
-    ApplyAll([&'static str; 2]),
-    Remove(&'static str),
-    RemoveExpired,
+    Parse(&'static str, InsertResult),
+    ParseUnderList(&'static str, InsertResult),
+    ParseCrossSite(&'static str, StrictResult),
+    Insert(&'static str, InsertResult),
+    InsertStrictly(&'static str, StrictResult),
+    Apply(&'static str, InsertResult),
+    ApplyEach(&'static str, &'static str),
+    ApplyAll(&'static str, &'static str),
+    Remove(&'static str, bool),
+    RemoveExpired(usize),
     RemoveAll,
     Clear,
 }
 
 // Calls, and the cookies that the files have after each, in creation order.
-static STEPS: [(Change, &str); 15] = [
-    (Change::Parse("a=1"), "a=1"),
-    (Change::Insert("b=2"), "a=1; b=2"),
-    (Change::ParseCrossSite("c=3"), "a=1; b=2"),
+static STEPS: [(Change, &str); 16] = [
+    (Change::Parse("a=1", INSERTED), "a=1"),
+    (Change::Insert("b=2", INSERTED), "a=1; b=2"),
     (
-        Change::ParseCrossSite("c=3; SameSite=None; Secure"),
+        Change::ParseCrossSite("c=3", Err(StrictError::CrossSite)),
+        "a=1; b=2",
+    ),
+    (
+        Change::ParseCrossSite("c=3; SameSite=None; Secure", Ok(StoreAction::Inserted)),
         "a=1; b=2; c=3",
     ),
-    (Change::InsertStrictly("__Host-d=4"), "a=1; b=2; c=3"),
-    (Change::InsertStrictly("d=4"), "a=1; b=2; c=3; d=4"),
-    (Change::Remove("b"), "a=1; c=3; d=4"),
-    (Change::Remove("b"), "a=1; c=3; d=4"),
-    (Change::Apply("a=5; Max-Age=60"), "a=5; c=3; d=4"),
-    (Change::ApplyEach(["c=6", "e=7"]), "a=5; c=6; d=4; e=7"),
     (
-        Change::ApplyAll(["a=5; Max-Age=0", "f=8"]),
-        "a=5; c=6; d=4; e=7; f=8",
+        Change::InsertStrictly("__Host-d=4", Err(StrictError::Prefix)),
+        "a=1; b=2; c=3",
     ),
-    (Change::RemoveExpired, "c=6; d=4; e=7; f=8"),
+    (
+        Change::InsertStrictly("d=4", Ok(StoreAction::Inserted)),
+        "a=1; b=2; c=3; d=4",
+    ),
+    (Change::Remove("b", true), "a=1; c=3; d=4"),
+    (Change::Remove("b", false), "a=1; c=3; d=4"),
+    (
+        Change::ParseUnderList("e=5; Domain=example", Err(CookieError::PublicSuffix)),
+        "a=1; c=3; d=4",
+    ),
+    (Change::Apply("a=5; Max-Age=60", UPDATED), "a=5; c=3; d=4"),
+    (Change::ApplyEach("c=6", "e=7"), "a=5; c=6; d=4; e=7"),
+    (Change::ApplyAll("d=8", "f=9"), "a=5; c=6; d=8; e=7; f=9"),
+    (
+        Change::Parse("a=5; Max-Age=0", EXPIRED),
+        "a=5; c=6; d=8; e=7; f=9",
+    ),
+    (Change::RemoveExpired(1), "c=6; d=8; e=7; f=9"),
     (Change::RemoveAll, ""),
-    (Change::Parse("a=1"), "a=1"),
     (Change::Clear, ""),
 ];
 
@@ -77,16 +97,15 @@ fn set_call(rt: &impl Abort, alloc: Global, text: &str) -> Call {
     }
 }
 
-fn set_calls(rt: &impl Abort, alloc: Global, texts: [&'static str; 2]) -> Vec<Call> {
+fn set_calls(rt: &impl Abort, alloc: Global, first: &str, last: &str) -> Vec<Call> {
     let mut calls = Vec::new(alloc);
-    for text in texts.iter() {
-        calls.push(set_call(rt, alloc, text)).expect(rt, "a call");
-    }
+    calls.push(set_call(rt, alloc, first)).expect(rt, "a call");
+    calls.push(set_call(rt, alloc, last)).expect(rt, "a call");
     calls
 }
 
-// Executes the call.
-fn execute<S: Store>(
+// Executes a call that parses a header value.
+fn parse<S: Store>(
     rt: &impl Abort,
     alloc: Global,
     durable: &mut DurableStore<S>,
@@ -94,30 +113,66 @@ fn execute<S: Store>(
 ) -> Result<(), DurableError>
     requires { IsInStep durable.old (S.Store.view durable.old.file) }
 {
-    let now = new_year();
+    let (url, now) = (url(rt, alloc, FROM), new_year());
     match change {
-        Change::Parse(text) => {
-            let _ = durable.parse(alloc, text, &url(rt, alloc, FROM), now)?;
+        Change::Parse(text, wanted) => {
+            let reply = durable.parse(alloc, text, &url, now)?;
+            is_equal(rt, &reply, &wanted, &text);
         }
-        Change::Insert(text) => {
-            let cookie = cookie(rt, alloc, &(FROM, text));
-            let _ = durable.insert(alloc, cookie, &url(rt, alloc, FROM), now)?;
+        Change::ParseUnderList(text, wanted) => {
+            durable.set_suffix_list(list(rt, alloc, "example"));
+            let reply = durable.parse(alloc, text, &url, now)?;
+            is_equal(rt, &reply, &wanted, &text);
         }
-        Change::ParseCrossSite(text) => {
-            let url = url(rt, alloc, FROM);
-            let _ = strict::parse_in_context(durable, alloc, text, &url, CROSS_SITE, now)?;
+        Change::ParseCrossSite(text, wanted) => {
+            let reply = strict::parse_in_context(durable, alloc, text, &url, CROSS_SITE, now)?;
+            is_equal(rt, &reply, &wanted, &text);
         }
-        Change::InsertStrictly(text) => {
-            let cookie = cookie(rt, alloc, &(FROM, text));
-            let _ = strict::insert(durable, alloc, cookie, &url(rt, alloc, FROM), now)?;
-        }
-        _ => return execute_other(rt, alloc, durable, change),
+        _ => return insert(rt, alloc, durable, change),
     }
     Ok(())
 }
 
-// Executes a call that is no insertion of one cookie.
-fn execute_other<S: Store>(
+// Executes a call that inserts a cookie.
+fn insert<S: Store>(
+    rt: &impl Abort,
+    alloc: Global,
+    durable: &mut DurableStore<S>,
+    change: Change,
+) -> Result<(), DurableError>
+    requires { IsInStep durable.old (S.Store.view durable.old.file) }
+{
+    let (url, now) = (url(rt, alloc, FROM), new_year());
+    match change {
+        Change::Insert(text, wanted) => {
+            let reply = durable.insert(alloc, cookie(rt, alloc, &(FROM, text)), &url, now)?;
+            is_equal(rt, &reply, &wanted, &text);
+        }
+        Change::InsertStrictly(text, wanted) => {
+            let cookie = cookie(rt, alloc, &(FROM, text));
+            let reply = strict::insert(durable, alloc, cookie, &url, now)?;
+            is_equal(rt, &reply, &wanted, &text);
+        }
+        Change::Apply(text, wanted) => {
+            let reply = durable.apply(alloc, set_call(rt, alloc, text))?;
+            let is_wanted = matches!(reply, Reply::Stored(reply) if reply == wanted);
+            is_equal(rt, &is_wanted, &true, &text);
+        }
+        Change::ApplyEach(first, last) => {
+            let calls = set_calls(rt, alloc, first, last);
+            durable.apply_each(alloc, calls).1?;
+        }
+        Change::ApplyAll(first, last) => {
+            let calls = set_calls(rt, alloc, first, last);
+            durable.apply_all(alloc, calls).1?;
+        }
+        _ => return remove(rt, alloc, durable, change),
+    }
+    Ok(())
+}
+
+// Executes a call that removes cookies.
+fn remove<S: Store>(
     rt: &impl Abort,
     alloc: Global,
     durable: &mut DurableStore<S>,
@@ -126,61 +181,19 @@ fn execute_other<S: Store>(
     requires { IsInStep durable.old (S.Store.view durable.old.file) }
 {
     match change {
-        Change::Apply(text) => {
-            let _ = durable.apply(alloc, set_call(rt, alloc, text))?;
+        Change::Remove(name, wanted) => {
+            let removed = durable.remove(alloc, "shop.example", "/", name)?;
+            is_equal(rt, &removed.is_some(), &wanted, &name);
             Ok(())
         }
-        Change::ApplyEach(texts) => durable.apply_each(alloc, set_calls(rt, alloc, texts)).1,
-        Change::ApplyAll(texts) => durable.apply_all(alloc, set_calls(rt, alloc, texts)).1,
-        Change::Remove(name) => {
-            let _ = durable.remove(alloc, "shop.example", "/", name)?;
-            Ok(())
-        }
-        Change::RemoveExpired => {
-            let _ = durable.remove_expired(alloc, new_year())?;
+        Change::RemoveExpired(wanted) => {
+            let count = durable.remove_expired(alloc, new_year())?;
+            is_equal(rt, &count, &wanted, &"expired cookies");
             Ok(())
         }
         Change::RemoveAll => durable.retain(alloc, |_cookie: &Cookie<'_>| -> bool { false }),
         _ => durable.clear(alloc),
     }
-}
-
-// Opens the files.
-fn opened(
-    rt: &impl Abort,
-    alloc: Global,
-    files: Files<Memory>,
-    keep_session: bool,
-) -> DurableStore<FileStore<Memory>>
-    ensures { IsInStep result (view result.file) }
-{
-    assert!(rt; files.may_be_used());
-    let opened = DurableStore::open_files(alloc, files, Options::new(7), keep_session);
-    opened.ok().expect(rt, "a store")
-}
-
-// The files with the call's change.
-fn changed(rt: &impl Abort, alloc: Global, files: Files<Memory>, change: Change) -> Files<Memory> {
-    let mut durable = opened(rt, alloc, files, true);
-    execute(rt, alloc, &mut durable, change).expect(rt, "a commit");
-    durable.into_file().close()
-}
-
-// Checks the cookies of the files.
-fn found(
-    rt: &impl Abort,
-    alloc: Global,
-    files: Files<Memory>,
-    keep_session: bool,
-    wanted: &str,
-) -> Files<Memory> {
-    let durable = opened(rt, alloc, files, keep_session);
-    let mut text = String::new(alloc);
-    for cookie in durable.store().iter_any() {
-        push_cookies(rt, &mut text, &[cookie]);
-    }
-    is_text(rt, text.as_str(), wanted, &wanted);
-    durable.into_file().close()
 }
 
 fn no_files(alloc: Global) -> Files<Memory> {
@@ -190,30 +203,91 @@ fn no_files(alloc: Global) -> Files<Memory> {
     }
 }
 
-#[test]
-fn changes_are_found_again(rt: HostRuntime) {
-    let mut files = no_files(rt.alloc());
+fn open(
+    rt: &impl Abort,
+    alloc: StoreAlloc,
+    files: Files<Memory>,
+    keep_session: bool,
+) -> DurableStore<FileStore<Memory>>
+    ensures { IsInStep result (view result.file) }
+{
+    assert!(rt; files.may_be_used());
+    match DurableStore::open_files(alloc, files, Options::new(7), keep_session) {
+        Ok(durable) => durable,
+        Err(_) => panic!(rt; "the files are not opened"),
+    }
+}
+
+// Opens the files, executes the call, and closes them.
+fn execute(
+    rt: &impl Abort,
+    alloc: StoreAlloc,
+    files: Files<Memory>,
+    change: Change,
+) -> Files<Memory> {
+    let mut durable = open(rt, alloc, files, true);
+    parse(rt, alloc.alloc, &mut durable, change).expect(rt, "a commit");
+    durable.into_file().close()
+}
+
+// Opens the files, checks their cookies, and closes them.
+fn check(
+    rt: &impl Abort,
+    alloc: StoreAlloc,
+    files: Files<Memory>,
+    keep_session: bool,
+    wanted: &str,
+) -> Files<Memory> {
+    let durable = open(rt, alloc, files, keep_session);
+    let mut text = String::new(alloc.alloc);
+    for cookie in durable.store().iter_any() {
+        push_cookies(rt, &mut text, &[cookie]);
+    }
+    is_text(rt, text.as_str(), wanted, &wanted);
+    durable.into_file().close()
+}
+
+// Executes all calls, and checks the cookies after each.
+fn execute_all(rt: &impl Abort, alloc: StoreAlloc) {
+    let mut files = no_files(alloc.alloc);
     for (change, wanted) in &STEPS {
-        files = changed(&rt, rt.alloc(), files, *change);
-        files = found(&rt, rt.alloc(), files, true, wanted);
+        files = execute(rt, alloc, files, *change);
+        files = check(rt, alloc, files, true, wanted);
     }
 }
 
 #[test]
-fn session_cookies_are_removed_at_an_open(rt: HostRuntime) {
-    let change = Change::ApplyAll(["a=1", "b=2; Max-Age=60"]);
-    let files = changed(&rt, rt.alloc(), no_files(rt.alloc()), change);
-    let files = found(&rt, rt.alloc(), files, true, "a=1; b=2");
-    let files = found(&rt, rt.alloc(), files, false, "b=2");
-    let _ = found(&rt, rt.alloc(), files, true, "b=2");
+fn changes_are_found_again(rt: HostRuntime) {
+    execute_all(&rt, StoreAlloc::from(rt.alloc()));
 }
 
-// Calls that set this many cookies of different paths, with values of 1,000 bytes.
-fn many_calls(rt: &impl Abort, alloc: Global, count: usize) -> Vec<Call> {
-    let value = "v".repeat(alloc, 1000).expect(rt, "a string");
+#[test]
+fn changes_are_found_again_under_a_random_key(rt: HostRuntime) -> Result<(), Fail> {
+    let alloc = StoreAlloc {
+        alloc: rt.alloc(),
+        hash_key: HashKey::Random(RandomState::new(&rt)?),
+    };
+    execute_all(&rt, alloc);
+    Ok(())
+}
+
+#[test]
+fn session_cookies_are_removed_by_an_open(rt: HostRuntime) {
+    let alloc = StoreAlloc::from(rt.alloc());
+    let change = Change::ApplyAll("a=1", "b=2; Max-Age=60");
+    let files = execute(&rt, alloc, no_files(rt.alloc()), change);
+    let files = check(&rt, alloc, files, true, "a=1; b=2");
+    let files = check(&rt, alloc, files, false, "b=2");
+    let _ = check(&rt, alloc, files, true, "b=2");
+}
+
+// Calls that set a cookie at each of many paths. Its value is the number of the path and then long.
+fn many_calls(rt: &impl Abort, alloc: Global) -> Vec<Call> {
+    let long = "v".repeat(alloc, LONG).expect(rt, "a string");
     let mut calls = Vec::new(alloc);
-    for number in 0..count {
-        let text = format!(in alloc; "n={}; Path=/{number}", value.as_str()).expect(rt, "a string");
+    for number in 0..MANY {
+        let text = format!(in alloc; "n={number}{}; Path=/{number}", long.as_str());
+        let text = text.expect(rt, "a string");
         calls
             .push(set_call(rt, alloc, text.as_str()))
             .expect(rt, "a call");
@@ -221,14 +295,30 @@ fn many_calls(rt: &impl Abort, alloc: Global, count: usize) -> Vec<Call> {
     calls
 }
 
+// Checks the value of the cookie at the path: what it begins with, and its length.
+fn is_found<S: Store>(
+    rt: &impl Abort,
+    durable: &DurableStore<S>,
+    path: &str,
+    wanted: (&'static str, usize),
+) {
+    let found = durable.store().get_any("shop.example", path, "n");
+    let value = found.map(|cookie| cookie.value()).unwrap_or("");
+    is_equal(rt, &value.starts_with(wanted.0), &true, &path);
+    is_equal(rt, &value.len(), &wanted.1, &path);
+}
+
 #[test]
 fn many_cookies_are_found_again(rt: HostRuntime) {
-    let mut durable = opened(&rt, rt.alloc(), no_files(rt.alloc()), true);
-    let (replies, executed) = durable.apply_all(rt.alloc(), many_calls(&rt, rt.alloc(), MANY));
+    let alloc = StoreAlloc::from(rt.alloc());
+    let mut durable = open(&rt, alloc, no_files(rt.alloc()), true);
+    let (replies, executed) = durable.apply_all(rt.alloc(), many_calls(&rt, rt.alloc()));
+    drop(replies);
     executed.expect(&rt, "a commit");
-    is_equal(&rt, &replies.len(), &MANY, &"replies");
-    let files = durable.into_file().close();
-    let durable = opened(&rt, rt.alloc(), files, true);
+    let durable = open(&rt, alloc, durable.into_file().close(), true);
     is_equal(&rt, &durable.store().len(), &MANY, &"cookies");
+    is_found(&rt, &durable, "/0", ("0v", 5001));
+    is_found(&rt, &durable, "/299", ("299v", 5003));
+    is_found(&rt, &durable, "/599", ("599v", 5003));
     drop(durable);
 }
