@@ -117,9 +117,9 @@ def times(commands, folder, cookies):
     def runs(of_program):
         return Runs(lambda: [processor_seconds(of_program[part], cwd=folder) for part in SAVES])
 
-    measured = {name: runs(of_program) for name, of_program in commands.items()}
-    settle(measured.values())
-    for name, each in measured.items():
+    by_name = {name: runs(of_program) for name, of_program in commands.items()}
+    settle(by_name.values())
+    for name, each in by_name.items():
         load, both = (seconds * 1e6 / cookies for seconds in each.best)
         yield name, [load, both - load]
 
