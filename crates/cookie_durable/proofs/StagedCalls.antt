@@ -1,5 +1,5 @@
 -- What calls leave that change the cookies in memory, and then commit their changes.
-use Rattle.std.proofs.Common.{◌≡◌, ◌⊎◌, ◌≤◌, ◌∙◌, ◌++◌, ℕ, false, true, true≢false, List, [], OnErr, OnOk, Result, Ok, Err, arith, inl, inr, map, subst, sym, ⊎_elim}
+use Rattle.std.proofs.Common.{◌≡◌, ◌⊎◌, ◌≤◌, ◌∙◌, ◌++◌, ℕ, false, true, true≢false, List, [], OnErr, OnOk, Result, Ok, Err, ap, arith, inl, inr, map, refl, subst, sym, ⊎_elim}
 use Rattle.std.specs.List.{All}
 use Rattle.std.specs.Map.{values_of}
 use Rattle.std.proofs.lemmas.List.Elements.{All-append, All-nil}
@@ -15,6 +15,7 @@ use Rattle.durable_table.specs.declared.change.Change.TheVariants.{Delete}
 use Rattle.cookie_durable.specs.Durable.{Durable, IsAtomic, IsInStep, IsStaged, WillSave}
 use Rattle.cookie_durable.specs.Numbering.{Ids, IsNumbered}
 use Rattle.cookie_durable.specs.SavedTables.{Holds}
+use Rattle.cookie_durable.specs.Sweeping.{HasRemoved, Shrinks}
 use Rattle.cookie_durable.specs.declared.durable_error.DurableError.{DurableError}
 use Rattle.cookie_durable.proofs.CommittedCalls.{HasSaved}
 use Rattle.cookie_durable.proofs.SavedFiles.{will-hold}
@@ -61,6 +62,34 @@ staged_after {S = S} view inside old Left changes new_changes new same was works
                 (numbered inside.store _ (left _ will.numbered) will.numbered);
           };
     })
+
+-- cookies were removed in memory from a store in step with its file, and then their rows: it is in step again, and a crash leaves
+-- the table as it was, or with the cookies after the call
+pub left_by_removal : {S : Type 0} (view : S → View) (recovers : S → Trees → Type 0) (inside old d new : Durable S) (left : Contents) → inside ≡ old
+    → IsInStep old (view old.file) → d ≡ record inside { store = d.store }
+    → ((rows : List TableRow) → IsNumbered inside.store inside.ids inside.next rows → Shrinks inside.store d.store) → d.store ≡ left
+    → ((before : Durable S) → HasRemoved before d (view d.file) → IsInStep new (view new.file))
+    → ((before : Durable S) → HasRemoved before d (view d.file) → IsAtomic view recovers before new d.store)
+    → IsInStep new (view new.file) × IsAtomic view recovers old new left
+left_by_removal {S = S} view recovers inside old d new left same in_step rest shrinks are leaves crash =
+    let removed : HasRemoved old d (view d.file) =
+    subst (λ (x : Durable S). IsInStep x (view x.file) → HasRemoved x d (view d.file)) same
+    (λ begun. record { in_step = subst (λ (x : Durable S). IsInStep inside (view x.file)) (sym rest) begun; rest = rest; shrinks = shrinks }) in_step in
+    (leaves old removed, subst (IsAtomic view recovers old new) are (crash old removed))
+
+-- cookies were removed in memory, and these are the changes that delete their rows
+pub removed_staged : {S : Type 0} (view : S → View) (before d : Durable S) (changes : List Change) (new : Durable S)
+    → HasRemoved before d (view d.file) → d.is_failed ≡ false
+    → ((kept : Contents) (rows : List TableRow) → Shrinks kept d.store → IsNumbered kept d.ids d.next rows
+    → IsNumbered new.store new.ids new.next (after changes rows))
+    → All HasRowid changes → new.file ≡ d.file → new.table ≡ d.table → IsStaged new changes (view new.file)
+removed_staged {S = S} view before d changes new removed works numbered keyed file table =
+    let same = removed.rest in
+    let in_step : IsInStep before (view before.file) = subst (λ (x : Durable S). IsInStep before (view x.file)) same removed.in_step in
+    staged_after view before before (λ kept. Shrinks kept d.store) [] changes new refl (nothing_staged before (view before.file) in_step)
+    (sym (ap (λ (x : Durable S). x.is_failed) same) ∙ works) removed.shrinks
+    (λ kept rows shrinks was. numbered kept rows shrinks (subst (λ (x : Durable S). IsNumbered kept x.ids x.next rows) (sym same) was))
+    (λ _. keyed) (file ∙ ap (λ (x : Durable S). x.file) same) (table ∙ ap (λ (x : Durable S). x.table) same)
 
 -- all cookies were removed in memory, and the changes that delete their rows added
 pub cleared_staged : {S : Type 0} (view : S → View) (inside old : Durable S) (cleared : Contents) (ids : Ids) (changes deletions new_changes : List Change)

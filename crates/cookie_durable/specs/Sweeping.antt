@@ -4,7 +4,10 @@ use Rattle.std.specs.List.{IsDistinct}
 use Rattle.std.specs.Map.{keys_of, values_of}
 use Rattle.cookie_laws.specs.Contents.{Contents, HasCreationOrder}
 use Rattle.cookie_laws.specs.Rows.{Key, row_of, same_key}
-use Rattle.cookie_durable.specs.Numbering.{Ids, Names, key_in}
+use Rattle.sqlite_trees.specs.View.{View}
+use Rattle.sqlite_value.specs.Order.{Row as TableRow}
+use Rattle.cookie_durable.specs.Durable.{Durable, IsInStep}
+use Rattle.cookie_durable.specs.Numbering.{Ids, IsNumbered, Names, key_in}
 
 -- whether the store has a cookie of the key
 abbrev pub has_cookie : Contents → Key → Bool
@@ -28,3 +31,9 @@ pub record Shrinks (old new : Contents) : Type 0 where
   pub unlimited : new.limit ≡ None
   pub kept : (key : Key) → has_cookie new key ≡ true → row_of key new.rows ≡ row_of key old.rows
   pub created : new.created ≡ filter (has_cookie new) old.created
+
+-- cookies were removed in memory from a store that was in step with its file, and nothing else changed
+pub record HasRemoved {S : Type 0} (before d : Durable S) (v : View) : Type 0 where
+  pub in_step : IsInStep before v
+  pub rest : d ≡ record before { store = d.store }
+  pub shrinks : (rows : List TableRow) → IsNumbered before.store before.ids before.next rows → Shrinks before.store d.store

@@ -1,16 +1,18 @@
-//! Removing expired cookies, or those that fail a test.
+//! Removing expired cookies, those of a domain, or those that fail a test.
 ghost use Rattle.std.specs.Prelude.{◌≡◌, ◌⊎◌, ◌+◌, ◌≤◌, false, length, true, Bool, List, Err, IfErr, IfOk, IsTrue, OnErr, OnOk};
 ghost use Rattle.std.specs.Fn.{FnReturnsAt};
 ghost use Rattle.std.specs.List.{All};
 ghost use Rattle.cookie_words.specs.Moments.{moment_of};
 ghost use Rattle.cookie_parts.specs.Cookie.{Row};
 ghost use Rattle.sqlite_value.specs.Order.{Row as TableRow};
-ghost use Rattle.sqlite_trees.specs.View.{doubt};
+ghost use Rattle.sqlite_trees.specs.View.{doubt, IsClean};
 ghost use Rattle.durable_table.specs.Changes.{after, HasRowid};
+ghost use Rattle.durable_table.specs.Transactions.{IsReady};
 ghost use Rattle.cookie_laws.specs.Contents.{retained, unexpired, Contents, ReturnsTest};
-ghost use Rattle.cookie_durable.specs.Durable.{ChangesTo, IsAtomic, IsInStep, IsNotWritten};
+ghost use Rattle.cookie_rows.specs.Retained.{has_other_domain};
+ghost use Rattle.cookie_durable.specs.Durable.{ChangesTo, Durable, IsAtomic, IsInStep, IsNotWritten};
 ghost use Rattle.cookie_durable.specs.Numbering.{IsNumbered};
-ghost use Rattle.cookie_durable.specs.Sweeping.{Shrinks};
+ghost use Rattle.cookie_durable.specs.Sweeping.{HasRemoved, Shrinks};
 
 use crate::sweeping::sweep;
 use crate::{DurableError, DurableStore};
@@ -48,8 +50,37 @@ impl<S: Store> DurableStore<S> {
             return Err(DurableError::Failed);
         }
         let removed = self.store.remove_expired(now);
-        let deletions = self.sweep_rows(alloc)?;
-        self.commit_changes(deletions.as_slice())?;
+        self.commit_removals(alloc)?;
+        Ok(removed)
+    }
+
+    /// Removes the cookies of this domain, expired or not, commits the change and returns how many they
+    /// were. Like [`remove_expired`](Self::remove_expired) it looks at each cookie.
+    ///
+    /// # Errors
+    ///
+    /// In the order in which they are checked:
+    /// - `Failed`: an earlier call returned `NotWritten`.
+    /// - `NotWritten`: the cookies were removed, and the change was not committed.
+    pub fn remove_domain(&mut self, alloc: Global, domain: &str) -> Result<usize, DurableError>
+        requires { IsInStep self.old (S.Store.view self.old.file) }
+        ensures in_step { IsInStep self.new (S.Store.view self.new.file) }
+        ensures change { ChangesTo result self.old self.new (retained (has_other_domain domain.now) self.old.store) }
+        ensures removed { IfOk result (λ removed. removed + length self.new.store.rows ≡ length self.old.store.rows) }
+
+        // A crash leaves the table as it was, or with the cookies after the call.
+        ensures crash { IsAtomic S.Store.view S.Store.recovers self.old self.new (retained (has_other_domain domain.now) self.old.store) }
+
+        ensures failed { IsTrue self.old.is_failed → result ≡ Err DurableError.Failed }
+        ensures reason { IfErr result (λ e. IsTrue self.old.is_failed ⊎ IsNotWritten e) }
+        ensures table { self.new.table ≡ self.old.table }
+        ensures clean { doubt (S.Store.view self.old.file).is_clean ≤ doubt (S.Store.view self.new.file).is_clean }
+    {
+        if self.is_failed {
+            return Err(DurableError::Failed);
+        }
+        let removed = self.store.remove_domain(domain);
+        self.commit_removals(alloc)?;
         Ok(removed)
     }
 
@@ -87,6 +118,21 @@ impl<S: Store> DurableStore<S> {
             return Err(DurableError::Failed);
         }
         self.store.retain(keep);
+        self.commit_removals(alloc)
+    }
+
+    // Commits the deletion of the rows whose cookies the store no longer has.
+    fn commit_removals(&mut self, alloc: Global) -> Result<(), DurableError>
+        requires works { self.old.is_failed ≡ false }
+        requires ready { IsClean (S.Store.view self.old.file) → IsReady self.old.table (S.Store.view self.old.file) }
+        ensures in_step { (before : Durable S) → HasRemoved before self.old (S.Store.view self.old.file) → IsInStep self.new (S.Store.view self.new.file) }
+        ensures change { ChangesTo result self.old self.new self.old.store }
+        ensures crash { (before : Durable S) → HasRemoved before self.old (S.Store.view self.old.file)
+            → IsAtomic S.Store.view S.Store.recovers before self.new self.old.store }
+        ensures error { IfErr result IsNotWritten }
+        ensures table { self.new.table ≡ self.old.table }
+        ensures clean { doubt (S.Store.view self.old.file).is_clean ≤ doubt (S.Store.view self.new.file).is_clean }
+    {
         let deletions = self.sweep_rows(alloc)?;
         self.commit_changes(deletions.as_slice())
     }

@@ -47,12 +47,13 @@ enum Change {
     ApplyAll(&'static str, &'static str),
     Remove(&'static str, bool),
     RemoveExpired(usize),
+    RemoveDomain(&'static str, usize),
     RemoveAll,
     Clear,
 }
 
 // Calls, and the cookies that the files have after each, in creation order.
-static STEPS: [(Change, &str); 16] = [
+static STEPS: [(Change, &str); 19] = [
     (Change::Parse("a=1", INSERTED), "a=1"),
     (Change::Insert("b=2", INSERTED), "a=1; b=2"),
     (
@@ -85,6 +86,9 @@ static STEPS: [(Change, &str); 16] = [
         "a=5; c=6; d=8; e=7; f=9",
     ),
     (Change::RemoveExpired(1), "c=6; d=8; e=7; f=9"),
+    (Change::RemoveDomain("example", 0), "c=6; d=8; e=7; f=9"),
+    (Change::RemoveDomain("shop.example", 4), ""),
+    (Change::Parse("a=1", INSERTED), "a=1"),
     (Change::RemoveAll, ""),
     (Change::Clear, ""),
 ];
@@ -189,6 +193,11 @@ fn remove<S: Store>(
         Change::RemoveExpired(wanted) => {
             let count = durable.remove_expired(alloc, new_year())?;
             is_equal(rt, &count, &wanted, &"expired cookies");
+            Ok(())
+        }
+        Change::RemoveDomain(domain, wanted) => {
+            let count = durable.remove_domain(alloc, domain)?;
+            is_equal(rt, &count, &wanted, &domain);
             Ok(())
         }
         Change::RemoveAll => durable.retain(alloc, |_cookie: &Cookie<'_>| -> bool { false }),
