@@ -96,7 +96,7 @@ impl BoxedCookie {
     }
 
     // The rank in eviction order: by class, then by creation.
-    pub(crate) fn rank(&self, order: EvictionOrder, now: DateTime) -> (u8, u64)
+    pub(crate) fn rank(&self, order: EvictionOrder, now: DateTime) -> (u64, u64)
         ensures { result ≡ rank_of order (moment_of now) self.now }
     {
         let inner = self.inner.as_ref();
@@ -127,7 +127,7 @@ impl BoxedCookie {
 
 // Appends each row's rank in eviction order to `ranks`.
 pub(crate) fn push_ranks(
-    ranks: &mut Vec<(u8, u64)>,
+    ranks: &mut Vec<(u64, u64)>,
     names: &Names,
     order: EvictionOrder,
     now: DateTime,

@@ -17,8 +17,9 @@ pub enum EvictionOrder {
 }
 
 impl EvictionOrder {
-    // Returns the class of a row: rows of lower classes are evicted first.
-    pub(crate) fn class_of(self, cookie: &Cookie<'_>, now: DateTime) -> u8
+    // Returns the class of a row: rows of lower classes are evicted first. It is as wide as a number,
+    // so that a rank has no padding: a pass over the rows would copy that with each row.
+    pub(crate) fn class_of(self, cookie: &Cookie<'_>, now: DateTime) -> u64
         ensures { result ≡ class_of self (moment_of now) cookie.now }
     {
         if cookie.is_expired(now) {

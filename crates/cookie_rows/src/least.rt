@@ -13,7 +13,7 @@ use jiff::civil::DateTime;
 pub(crate) struct Least {
     pub(crate) path: usize,
     pub(crate) row: usize,
-    pub(crate) rank: (u8, u64),
+    pub(crate) rank: (u64, u64),
 }
 
 // Returns the row of this domain that is evicted first.

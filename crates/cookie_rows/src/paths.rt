@@ -340,7 +340,7 @@ impl Paths {
         limit: usize,
         order: EvictionOrder,
         now: DateTime,
-    ) -> Result<((u8, u64), usize), AllocError>
+    ) -> Result<((u64, u64), usize), AllocError>
         requires limit { 0 < limit }
         requires full { limit ≤ length (items_in_paths (paths_in_order self.now)) }
         ensures first { IfOk result (λ found. IsFirstSurvivor limit order (moment_of now) (rank_of order (moment_of now) row.now) (paths_in_order self.now) found.0) }
@@ -360,7 +360,7 @@ impl Paths {
         alloc: Global,
         order: EvictionOrder,
         now: DateTime,
-    ) -> Result<Vec<(u8, u64)>, AllocError>
+    ) -> Result<Vec<(u64, u64)>, AllocError>
         ensures { IfOk result (λ ranks. ranks.items ≡ ranks_of order (moment_of now) (paths_in_order self.now)) }
     {
         let mut ranks = Vec::new(alloc);
@@ -388,7 +388,7 @@ impl Paths {
     }
 
     // Keeps the rows that do not come before `first` in eviction order, and drops empty groups.
-    fn evict_before(&mut self, first: (u8, u64), order: EvictionOrder, now: DateTime)
+    fn evict_before(&mut self, first: (u64, u64), order: EvictionOrder, now: DateTime)
         ensures { paths_in_order self.new ≡ filter_paths (survives order (moment_of now) first) (paths_in_order self.old) }
     {
         let keep = move |cookie: &Cookie<'_>, number: u64| -> bool
