@@ -54,8 +54,8 @@ impl<S: Store> DurableStore<S> {
         Ok(removed)
     }
 
-    /// Removes the cookies of this domain, expired or not, commits the change and returns how many they
-    /// were. Like [`remove_expired`](Self::remove_expired) it looks at each cookie.
+    /// Removes the cookies of this domain, expired or not, commits the change and returns how many
+    /// were removed. It looks at each cookie of the store.
     ///
     /// # Errors
     ///

@@ -17,8 +17,8 @@ pub enum EvictionOrder {
 }
 
 impl EvictionOrder {
-    // Returns the class of a row: rows of lower classes are evicted first. It is as wide as a number,
-    // so that a rank has no padding: a pass over the rows would copy that with each row.
+    // Returns the class of a row: rows of lower classes are evicted first. It is a `u64`, as the row's
+    // number is: a narrower one leaves padding in a rank, which a pass over the rows would copy.
     pub(crate) fn class_of(self, cookie: &Cookie<'_>, now: DateTime) -> u64
         ensures { result ≡ class_of self (moment_of now) cookie.now }
     {
