@@ -6,15 +6,10 @@ import (
 	"fmt"
 	"hash/fnv"
 	"io"
-	"net/http"
-	"net/http/cookiejar"
-	"net/url"
 	"reflect"
-	"runtime"
 	"sort"
 	"strings"
 	"sync"
-	"sync/atomic"
 	"testing"
 	"time"
 )
@@ -304,68 +299,3 @@ func TestSplitJarIsShared(t *testing.T) {
 	group.Wait()
 	expectSame(t, "number", jar.Len(), 24)
 }
-
-// benchmarkJar has 16 goroutines, each with sites of its own, call Cookies and, for every tenth call, SetCookies.
-func benchmarkJar(b *testing.B, jar http.CookieJar) {
-	const goroutines, sites = 16, 64
-	var urls [goroutines][sites]*url.URL
-	cookies := (&http.Response{Header: http.Header{"Set-Cookie": {"a=1; Path=/", "b=2; Path=/; HttpOnly", "c=3; Path=/x"}}}).Cookies()
-	for g := range urls {
-		for i := range urls[g] {
-			urls[g][i] = &url.URL{Scheme: "https", Host: fmt.Sprintf("www.site%d-%d.co.uk", g, i), Path: "/x/page"}
-			jar.SetCookies(urls[g][i], cookies)
-		}
-	}
-	var next int32
-	b.ReportAllocs()
-	b.SetParallelism((goroutines + runtime.GOMAXPROCS(0) - 1) / runtime.GOMAXPROCS(0))
-	b.ResetTimer()
-	b.RunParallel(func(pb *testing.PB) {
-		own := &urls[int(atomic.AddInt32(&next, 1))%goroutines]
-		for i := 0; pb.Next(); i++ {
-			u := own[i%sites]
-			if i%10 == 0 {
-				jar.SetCookies(u, cookies)
-			} else if len(jar.Cookies(u)) != 3 {
-				b.Error("a cookie is missing")
-			}
-		}
-	})
-}
-
-func BenchmarkSharedJar(b *testing.B) {
-	list, err := SystemPublicSuffixList()
-	if err != nil {
-		b.Skip(err)
-	}
-	for _, shards := range []int{1, 4, 16} {
-		b.Run(fmt.Sprintf("shards=%d", shards), func(b *testing.B) {
-			jar, err := New(&Options{PublicSuffixList: list, Strict: true, Shards: shards})
-			if err != nil {
-				b.Fatal(err)
-			}
-			defer jar.Close()
-			benchmarkJar(b, jar)
-		})
-	}
-	b.Run("cookiejar", func(b *testing.B) {
-		jar, err := cookiejar.New(&cookiejar.Options{PublicSuffixList: lastLabels{}})
-		if err != nil {
-			b.Fatal(err)
-		}
-		benchmarkJar(b, jar)
-	})
-}
-
-// lastLabels is a list for cookiejar: its public suffixes have two labels.
-type lastLabels struct{}
-
-func (lastLabels) PublicSuffix(domain string) string {
-	labels := strings.Split(domain, ".")
-	if len(labels) > 2 {
-		labels = labels[len(labels)-2:]
-	}
-	return strings.Join(labels, ".")
-}
-
-func (lastLabels) String() string { return "two labels" }

@@ -9,15 +9,17 @@ folder, from --archive; without it the library is proved and built first. Needs 
 
 It prints how many times as long a call of the C library takes in a store under the rules of browsers.
 
-Of Go it prints how many calls of 16 goroutines end in a second by the clock, each with hosts of its own, on a jar that is split
-into shards or not, and on one of net/http/cookiejar, and their ratios to that one. That is left out without Go.
+Of Go it prints microseconds by the clock of a call of one goroutine, and how many calls of 16 end in a second, each with hosts of
+its own, on a jar that is split into shards or not; both beside net/http/cookiejar. That is left out without Go, and the second
+without the list of Debian's package publicsuffix.
 
 Then it prints the times of Node's CookieStore and CookieJar, and how many times as long tough-cookie takes: for cookies of hosts
 with 20 each, and for one host whose cookies have a path each. The cookies of a response are set by one call of a CookieStore, and
 by a call for each of a jar. That is left out without Node and its headers, and the ratios without tough-cookie.
 
 Exit status: 0; 1 if a call fails, or if a request has other cookies without a store; on an idle machine also if a peer is
-ahead, or if under those rules a header takes more than 1.2 times as long, or a set more than 1.3 times."""
+ahead, if a set from Go takes more than 1.5 times as long as by cookiejar, or if under those rules a header takes more than 1.2
+times as long, or a set more than 1.3 times."""
 import gc
 import http.cookiejar
 import importlib
@@ -30,7 +32,7 @@ import tempfile
 import time
 import urllib.request
 
-from bench_parts import clients, goroutines, report
+from bench_parts import clients, golang, report
 from bench_parts.jar import Response
 from common import ROOT, compile_c, install, stop
 
@@ -45,6 +47,8 @@ STRICT = {'set': ('set_strict', 'set a cookie', 1.3), 'get_many': ('get_strict',
           'set_large': ('set_large_strict', f'set one of {LARGE_HOSTS * EACH:,} cookies', 1.3),
           'get_large': ('get_large_strict', f'header, of {LARGE_HOSTS * EACH:,} cookies', 1.2)}
 RESPONSE = f'set the {EACH} cookies of a response'
+CALLS = [('set', 'set a cookie'), ('response', RESPONSE), ('get_one', 'header, 1 cookie a host'),
+         ('get_many', f'header, {EACH} cookies a host')]
 HEADERS = [f'c{number}=value{number}; Path=/; Max-Age=86400' for number in range(EACH)]
 
 
@@ -196,10 +200,7 @@ def print_calls(columns):
     behind = []
     heads = ['C', 'CookieStore', 'StoreJar', 'http.cookiejar', 'ratio']
     print(f'{HOSTS} hosts, microseconds'.ljust(34) + ''.join(head.rjust(15) for head in heads))
-    rows = [('set', 'set a cookie'), ('response', RESPONSE), ('get_one', 'header, 1 cookie a host'),
-            ('get_many', f'header, {EACH} cookies a host'), ('count', 'count'), ('iterate', 'iterate over all'),
-            ('iterate_changed', 'iterate after a set')]
-    for key, name in rows:
+    for key, name in [*CALLS, ('count', 'count'), ('iterate', 'iterate over all'), ('iterate_changed', 'iterate after a set')]:
         took = [f'{column[key] * 1e6:.2f}' if key in column else '-' for column in columns]
         ratio = columns[3][key] / columns[2][key]
         behind += report.behind(f'StoreJar, {name}', 'http.cookiejar', ratio)
@@ -244,7 +245,11 @@ def run(options):
         files = {each: measure_files(module, f'{folder}/cookies.txt', each) for each in (EACH, 1)}
         requests = list(clients.measure_clients(module, measure))
         behind = [*print_calls(columns), *print_strict(columns[0]), *print_files(files), *clients.print_clients(requests)]
-        behind += goroutines.print_goroutines(goroutines.measure_goroutines(folder, prefix))
+        calls, shared = golang.measure_go(folder, prefix)
+        if calls:
+            behind += golang.print_calls(calls, CALLS)
+        if shared:
+            behind += golang.print_shared(shared)
         for number, times in measure_node(folder, prefix):
             behind += print_node(number, times)
     report.exit_after(behind, load)

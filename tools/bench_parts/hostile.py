@@ -1,17 +1,19 @@
-"""Inputs that a hostile server or page may choose, each at n, 4n and 16n, and how the time grows with n."""
+"""Inputs that a hostile server or page may choose, each at n, 4n and 16n, and how time and instructions grow with n."""
 import math
 import random
 import subprocess
 from dataclasses import dataclass
 from typing import Callable
 
-from bench_parts.measure import Task, repeated
+from bench_parts.measure import Task, has_valgrind, repeated
 from bench_parts.scripts import CLEAR, NOW, saved_lines
 
 TARGET = 0.1  # seconds that a run repeats the operation
+COUNTED = 0.02  # seconds of the operations whose instructions are counted
 PATIENCE = 40.0  # seconds: a larger input is skipped if it may take longer
-STEEPEST = 1.15  # the greatest exponent of a family that must be linear
-ATTEMPTS = 3  # a family that seems steeper is measured again, since the machine may have been busy
+STEEPEST = 1.15  # the greatest exponent of the time of a family that must be linear
+STEEPEST_COUNT = 1.05  # of its instructions, which differ less: n log n would be 1.09 or more
+ATTEMPTS = 3  # a family whose time seems steeper is measured again, since the machine may have been busy
 LABELS = ['a'] * 122 + ['com']
 DEEP = '.'.join(LABELS)  # a host of 247 bytes
 
@@ -25,6 +27,23 @@ class Family:
 
     def sizes(self):
         return self.least, 4 * self.least, 16 * self.least
+
+
+@dataclass(frozen=True)
+class Growth:
+    """How an operation of a family grows: seconds at n, 4n and 16n by program name, and instructions of the first program at the last
+    two of these sizes, if they were counted."""
+    family: Family
+    seconds: dict
+    instructions: list
+
+    def warnings(self, name):
+        """A warning if the instructions grow faster than linearly, or the time of this program if they were not counted: what else runs,
+        and what caches hold, changes the time."""
+        of, values, most = ('instructions', self.instructions, STEEPEST_COUNT) if self.instructions else ('time', self.seconds[name], STEEPEST)
+        steepness = exponent(values) or 0
+        if steepness > most:
+            yield f'Warning: the exponent of the {of} of "{self.family.title}" is {steepness}, above {most}.'
 
 
 def set_cookie(header, host='h.com'):
@@ -172,7 +191,7 @@ LINEAR = [
     Family('get, host of n labels, one cookie', 2000, lambda n: get(set_cookie('a=1'), f'http://{"a." * n}com/')),
     Family('get after n cookies of different paths were evicted', 250, get_after_evictions, has_peer=False),
     Family('get after n cookies of different paths were removed', 250, get_after_removals),
-    Family('get, n expired cookies of the host', 40_000, get_beside_expired, has_peer=False),
+    Family('get, n expired cookies of the host', 1000, get_beside_expired, has_peer=False),
     Family('set, value of n bytes', 10_000, lambda n: set_one(f'c={"v" * n}')),
     Family('set, name of n bytes, 31 names that begin alike', 2000, set_beside_long),
     Family('set, n attributes', 10_000, lambda n: set_one(f'c=1{"; a=b" * n}')),
@@ -220,8 +239,17 @@ def least(*measured):
     return {name: list(map(min, *(took[name] for took in measured))) for name in measured[0]}
 
 
+def count(meter, program, family, took):
+    """The instructions of an operation at the last two sizes that were timed, where one takes these seconds."""
+    counts = []
+    for size, seconds in [*zip(family.sizes(), took)][-2:]:
+        task = family.task(size)
+        counts.append(meter.count(program, task, min(math.ceil(COUNTED / max(seconds, 1e-9)), task.most)))
+    return counts
+
+
 def measure(meter, own, *peers, families, steepest=math.inf):
-    """Each family with the seconds at its sizes by program name, the least of several attempts if the first is too steep."""
+    """How each family grows: the least seconds of several attempts if the first is too steep."""
     grown = []
     for family in families:
         programs = [own, *peers] if family.has_peer else [own]
@@ -231,5 +259,5 @@ def measure(meter, own, *peers, families, steepest=math.inf):
         for _ in range(1, ATTEMPTS):
             if (exponent(took[own.name]) or 0) > steepest:
                 took = least(took, grow(meter, programs, family))
-        grown.append((family, took))
+        grown.append(Growth(family, took, count(meter, own, family, took[own.name]) if has_valgrind() else []))
     return grown

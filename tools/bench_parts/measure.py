@@ -159,9 +159,15 @@ class Meter:
         with open(report) as kilobytes:
             return took, int(kilobytes.read()) * 1024
 
-    def instructions(self, program, script):
+    def instructions(self, program, script, arguments=()):
+        """The instructions of one run."""
         with self._written(script) as path, open(path) as lines:
-            return instructions(program.command, stdin=lines)
+            return instructions([*program.command, *arguments], stdin=lines)
+
+    def count(self, program, task, repeats):
+        """The instructions of one operation, of runs with this many repeats: those of the script, less those of the base."""
+        base, script = (self.instructions(program, part(repeats), task.arguments) for part in (task.base, task.script))
+        return (script - base) / repeats / task.units
 
     def _series(self, program, task, target, least):
         """A series with as many operations as are enough, at least `least`, and its first runs."""

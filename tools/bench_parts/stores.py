@@ -2,13 +2,13 @@
 Usage: tools/bench [stores] [--write [--accept] | --only PART]
 
 Prints the time of a set, a replaced cookie, a get and a removal, of a set under a domain limit, bytes and instructions, and how
-the time of hostile inputs grows. A peer that cannot be built is left out, and a line says so. --write runs the other commands
-too, and writes docs/FIGURES.md before the first of them and after each. It appends the ratios, also theirs, to
+time and instructions of hostile inputs grow. A peer that cannot be built is left out, and a line says so. --write runs the other
+commands too, and writes docs/FIGURES.md before the first of them and after each. It appends the ratios, also theirs, to
 docs/figures.csv. If one is below nine tenths of the last one there of the same table, row and peer on a machine of the same kind,
 it prints both and writes nothing, or of the other commands appends no ratio, unless --accept is given.
 
-Exit status: 0; 1 if the time of a hostile input grows faster than linearly, if a peer is ahead on an idle machine, if
-a ratio fell so that it was not written, or if a program fails; 2 for a wrong argument."""
+Exit status: 0; 1 if a hostile input grows faster than linearly, if a peer is ahead on an idle machine, if a ratio fell so that
+it was not written, or if a program fails; 2 for a wrong argument."""
 import os
 import sys
 import tempfile
@@ -129,21 +129,23 @@ def instruction_table(meter, measured):
     return table('Instructions', note, ['operation'], measured, rows)
 
 
-def growth_row(family, took, own, *peers):
-    cells = [family.title, f'{family.least:,}']
+def growth_row(growth, own, *peers):
+    cells = [growth.family.title, f'{growth.family.least:,}']
     for program in (own, *peers):
-        times = took.get(program.name, [])
+        times = growth.seconds.get(program.name, [])
         milliseconds = ([number(each * 1e3) for each in times] + ['-'] * 3)[:3]
         cells += milliseconds if program is own else milliseconds[2:]
         cells.append(number(hostile.exponent(times)))
+        if program is own:
+            cells.append(number(hostile.exponent(growth.instructions)))
     return cells
 
 
 def growth_table(title, note, grown, own, *peers):
-    heads = ['timed', 'n', f'{own.name} at n', '4n', '16n', 'exponent']
+    heads = ['timed', 'n', f'{own.name} at n', '4n', '16n', 'exponent', 'exponent of instructions']
     for peer in peers:
         heads += [f'{peer.name} at 16n', 'exponent']
-    return Table(title, note, heads, [growth_row(family, took, own, *peers) for family, took in grown])
+    return Table(title, note, heads, [growth_row(growth, own, *peers) for growth in grown])
 
 
 def hostile_table(meter, own, *peers):
@@ -153,16 +155,15 @@ def hostile_table(meter, own, *peers):
     strict = programs.build_strict(meter.folder)
     if strict:
         grown += hostile.measure(meter, strict, families=hostile.STRICT, steepest=hostile.STEEPEST)
-    note = f'''Milliseconds of the operation in the first column. Between 4n and 16n the time grew as n to the power of
-the exponent: 0 does not grow, 1 is linear, 2 is quadratic. Each must be linear or less: `tools/bench` fails if an
-exponent of {own.name} is above {hostile.STEEPEST}. A larger one is measured again, at most {hostile.ATTEMPTS} times in all, and the least
-times count. Each n is large enough that fixed costs do not matter, and 4n and 16n are on the same side of the
-size of the processor's caches. A strict store is that of the C library, if it is built. Where 16n would take too
-long, the exponent is that from n to 4n. `-` was not measured.'''
+    note = f'''Milliseconds of the operation in the first column. Between 4n and 16n its time grew as n to the power of the
+exponent, and its instructions, which callgrind counts, as n to the power of the exponent of instructions: 0 does not grow, 1 is linear,
+2 is quadratic. Each must be linear or less: `tools/bench` fails if the exponent of the instructions of {own.name} is above
+{hostile.STEEPEST_COUNT}, or that of its time above {hostile.STEEPEST} if instructions are not counted. A time grows faster where cookies
+fall out of the processor's caches, and while other programs run: if its exponent is above {hostile.STEEPEST}, it is measured again, at most
+{hostile.ATTEMPTS} times in all, and the least times count. Each n is large enough that fixed costs hardly matter. A strict store is that
+of the C library, if it is built. Where 16n would take too long, the exponents are those from n to 4n. `-` was not measured.'''
     result = growth_table('Hostile inputs', note, grown, own, *peers)
-    exponents = [(family.title, hostile.exponent(took[own.name]) or 0) for family, took in grown]
-    result.warnings = [f'Warning: the exponent of "{title}" is {exponent}, above {hostile.STEEPEST}.'
-                       for title, exponent in exponents if exponent > hostile.STEEPEST]
+    result.warnings = [warning for growth in grown for warning in growth.warnings(own.name)]
     return result
 
 

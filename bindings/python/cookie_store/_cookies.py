@@ -56,16 +56,14 @@ class JarCookie(http.cookiejar.Cookie):
 
     def __init__(self, row: Cookie) -> None:  # pylint: disable=super-init-not-called
         # What is the same for all cookies is in the class: iteration is twice as fast as with the constructor of Cookie.
-        domain, path, name, value, expires, host_only, has_path, secure, http_only, same_site = row
-        if not (domain.isascii() and path.isascii() and name.isascii() and value.isascii()):
-            domain, path, name, value = to_wire(domain), to_wire(path), to_wire(name), to_wire(value)
+        domain, self.path, self.name, self.value, self.expires, host_only, self.path_specified, self.secure, http_only, same_site = row
+        if not (domain.isascii() and self.path.isascii() and self.name.isascii() and self.value.isascii()):
+            domain, self.path, self.name, self.value = map(to_wire, (domain, self.path, self.name, self.value))
         self.store_domain = domain
         if '.' not in domain:
             domain += '.local'
         self.domain = domain if host_only else '.' + domain
-        self.domain_specified = not host_only
-        self.path, self.path_specified, self.name, self.value = path, has_path, name, value
-        self.secure, self.expires, self.discard = secure, expires, expires is None
+        self.domain_specified, self.discard = not host_only, self.expires is None
         self._rest: Dict[str, Any] = {'HttpOnly': None} if http_only else {}
         if same_site is not None:
             self._rest['SameSite'] = same_site
