@@ -13,7 +13,7 @@ COUNTED = 0.02  # seconds of the operations whose instructions are counted
 PATIENCE = 40.0  # seconds: a larger input is skipped if it may take longer
 STEEPEST = 1.15  # the greatest exponent of the time of a family that must be linear
 STEEPEST_COUNT = 1.05  # of its instructions, which differ less: n log n would be 1.09 or more
-ATTEMPTS = 3  # a family whose time seems steeper is measured again, since the machine may have been busy
+ATTEMPTS = 3  # without instructions a family that seems steeper is timed again, since the machine may have been busy
 LABELS = ['a'] * 122 + ['com']
 DEEP = '.'.join(LABELS)  # a host of 247 bytes
 
@@ -249,15 +249,16 @@ def count(meter, program, family, took):
 
 
 def measure(meter, own, *peers, families, steepest=math.inf):
-    """How each family grows: the least seconds of several attempts if the first is too steep."""
+    """How each family grows: the least seconds of several attempts if the first is too steep, and instructions are not counted."""
     grown = []
     for family in families:
         programs = [own, *peers] if family.has_peer else [own]
         if len(programs) > 1:
             meter.compare(programs, family.task(family.least).script(1))
         took = grow(meter, programs, family)
+        counts = count(meter, own, family, took[own.name]) if has_valgrind() else []
         for _ in range(1, ATTEMPTS):
-            if (exponent(took[own.name]) or 0) > steepest:
+            if not counts and (exponent(took[own.name]) or 0) > steepest:
                 took = least(took, grow(meter, programs, family))
-        grown.append(Growth(family, took, count(meter, own, family, took[own.name]) if has_valgrind() else []))
+        grown.append(Growth(family, took, counts))
     return grown

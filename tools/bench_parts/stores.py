@@ -158,10 +158,10 @@ def hostile_table(meter, own, *peers):
     note = f'''Milliseconds of the operation in the first column. Between 4n and 16n its time grew as n to the power of the
 exponent, and its instructions, which callgrind counts, as n to the power of the exponent of instructions: 0 does not grow, 1 is linear,
 2 is quadratic. Each must be linear or less: `tools/bench` fails if the exponent of the instructions of {own.name} is above
-{hostile.STEEPEST_COUNT}, or that of its time above {hostile.STEEPEST} if instructions are not counted. A time grows faster where cookies
-fall out of the processor's caches, and while other programs run: if its exponent is above {hostile.STEEPEST}, it is measured again, at most
-{hostile.ATTEMPTS} times in all, and the least times count. Each n is large enough that fixed costs hardly matter. A strict store is that
-of the C library, if it is built. Where 16n would take too long, the exponents are those from n to 4n. `-` was not measured.'''
+{hostile.STEEPEST_COUNT}. A time grows faster where cookies fall out of the processor's caches, and while other programs run. So its
+exponent is judged only where instructions are not counted: then it must be at most {hostile.STEEPEST}, by the least times of
+{hostile.ATTEMPTS} measurements. Each n is large enough that fixed costs hardly matter. A strict store is that of the C library, if it is
+built. Where 16n would take too long, the exponents are those from n to 4n. `-` was not measured.'''
     result = growth_table('Hostile inputs', note, grown, own, *peers)
     result.warnings = [warning for growth in grown for warning in growth.warnings(own.name)]
     return result
