@@ -6,6 +6,8 @@ import (
 	"fmt"
 	"hash/fnv"
 	"io"
+	"net/http"
+	"net/url"
 	"reflect"
 	"sort"
 	"strings"
