@@ -40,7 +40,9 @@ class Growth:
     def warnings(self, name):
         """A warning if the instructions grow faster than linearly, or the time of this program if they were not counted: what else runs,
         and what caches hold, changes the time."""
-        of, values, most = ('instructions', self.instructions, STEEPEST_COUNT) if self.instructions else ('time', self.seconds[name], STEEPEST)
+        of, values, most = 'time', self.seconds[name], STEEPEST
+        if self.instructions:
+            of, values, most = 'instructions', self.instructions, STEEPEST_COUNT
         steepness = exponent(values) or 0
         if steepness > most:
             yield f'Warning: the exponent of the {of} of "{self.family.title}" is {steepness}, above {most}.'
