@@ -6,7 +6,6 @@ pub mod LoadErrors
 pub mod LoadedAlike
 pub mod LoadedLines
 pub mod Migrated
-pub mod NetscapeRead
 pub mod NoneEarly
 pub mod NumberedLines
 pub mod Pairs

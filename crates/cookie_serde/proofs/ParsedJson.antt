@@ -73,13 +73,3 @@ pub list_refused : {T : Type 0} (text : List ℕ) (list : List (Parts Moment)) (
 list_refused text list (Ok rows) is refused = tt
 list_refused text list (Err error) is (inl memory) = inl (inr (memory, some_parsed list_in no_list text list is))
 list_refused text list (Err error) is (inr refused) = inl (inl (ap read_cookies is ∙ refused))
-
--- and of a string that is no list
-pub list_error : (text : List ℕ) (fault : SavedError) → (list_in text ≡ Err fault) ⊎ ((fault ≡ ErrorCase.Memory) × (text ≢ []))
-    → JsonListParsesTo text (Err (error_from_saved fault))
-list_error text fault (inr (memory, some)) = rw memory (inr (refl, some))
-list_error text ErrorCase.Memory (inl is) = inr (refl, some_failed list_in no_list text is)
-list_error text ErrorCase.Json (inl is) = inl (ap read_cookies is)
-list_error text ErrorCase.Shape (inl is) = inl (ap read_cookies is)
-list_error text ErrorCase.Ron (inl is) = inl (ap read_cookies is)
-list_error text ErrorCase.Moment (inl is) = inl (ap read_cookies is)

@@ -1,6 +1,6 @@
 -- The error of a cookie's name and value is that of its header value.
 use Rattle.std.proofs.Common.{◌≡◌, ◌∙◌, ℕ, Bool, true, false, List, Result, Ok, Err, ap, refl, sym}
-use Rattle.std.specs.Prelude.{◌++◌, ◌&&◌, is_none, Option, Some, None, if◌then◌else◌}
+use Rattle.std.specs.Prelude.{◌++◌, Option, Some, None, if◌then◌else◌}
 use Rattle.std.specs.Str.Iter.{HasSubslice}
 use Rattle.std.proofs.lemmas.Bool.{cond_both, or_parts}
 use Rattle.std.proofs.lemmas.List.Folds.{list_any-append}
@@ -10,15 +10,13 @@ use Rattle.cookie_raw.specs.Raw.{Raw}
 use Rattle.cookie_raw.specs.Rfc6265bis.{reading_by}
 use Rattle.cookie_raw.specs.Slices.{HasSlices}
 use Rattle.cookie_raw.specs.declared.syntax.Syntax.TheVariants.{Rfc6265bis}
-use Rattle.cookie_parts.specs.Cookie.{Row, and_then, cookie_of, domain_for, early_error, is_out_of_reach}
+use Rattle.cookie_parts.specs.Cookie.{Row, and_then, cookie_of, domain_for, is_out_of_reach}
 use Rattle.cookie_parts.specs.Domain.{DomainValue, domain_from_attribute}
-use Rattle.cookie_parts.specs.Hosts.{host_of}
 use Rattle.cookie_parts.specs.declared.cookie_error.CookieError.{CookieError}
-use Rattle.cookie_parts.specs.declared.cookie_error.CookieError.TheVariants.{Memory, NonHttpScheme, NonRelativeScheme}
-use Rattle.cookie_parts.specs.declared.store_action.StoreAction.{StoreAction}
+use Rattle.cookie_parts.specs.declared.cookie_error.CookieError.TheVariants.{NonHttpScheme}
 use Rattle.cookie_strict.specs.HeaderValue.{domain_error, first_error, has_control, header_error, is_control, is_too_long, pair_error}
 use Rattle.cookie_strict.specs.declared.error.StrictError.{StrictError}
-use Rattle.cookie_strict.specs.declared.error.StrictError.TheVariants.{Cookie, TooLong}
+use Rattle.cookie_strict.specs.declared.error.StrictError.TheVariants.{TooLong}
 
 -- a slice of a header value without control characters has none
 slice_lacks : (text part : List ℕ) → HasSubslice text part → has_control text ≡ false → has_control part ≡ false
@@ -60,19 +58,3 @@ cookie_raw raw url now cookie =
 -- so a cookie that is made of a raw cookie has its error
 pub made_pair : (raw : Raw) (url : Parts) (now : Moment) (cookie : Row) → cookie_of raw url now ≡ Ok cookie → pair_error cookie.raw ≡ pair_error raw
 made_pair raw url now cookie made = ap pair_error (cookie_raw raw url now cookie made)
-
--- out of memory is no error that a raw cookie shows
-never_memory : (raw : Raw) (url : Parts) → early_error raw url ≡ Some Memory → ⊥
-never_memory raw url =
-    let P : Option CookieError → Type 0 = λ found. found ≡ Some Memory → ⊥ in
-    cond_both (is_out_of_reach raw url) (Some NonHttpScheme) _ P (λ _ is. absurd (cc))
-    (λ _. cond_both (is_none raw.domain && is_none (host_of url)) (Some NonRelativeScheme) None P (λ _ is. absurd (cc)) (λ _ is. absurd (cc)))
-
--- so an insertion that is out of memory shows none
-pub none_early : (raw : Raw) (url : Parts) (found : Option CookieError) (result : Result StoreAction StrictError) → found ≡ early_error raw url
-    → ((error : CookieError) → found ≡ Some error → result ≡ Err (Cookie error)) → result ≡ Err (Cookie Memory) → found ≡ None
-none_early raw url None result is early out = refl
-none_early raw url (Some error) result is early out =
-    let reported : result ≡ Err (Cookie error) = early error refl in
-    let same : error ≡ Memory = cc in
-    absurd (never_memory raw url (sym is ∙ ap Some same))

@@ -38,10 +38,6 @@ Covers-trans site domain host (inr (named, (first, is))) (inr (own, (second, at)
 abbrev pub Follows : List ℕ → List ℕ → Type 0
 Follows domain host = (prefix : List ℕ) × (host ≡ prefix ++ 46 ∷ domain)
 
-follows-trans : (a b c : List ℕ) → Follows a b → Follows b c → Follows a c
-follows-trans a b c (first, is) (second, at) =
-    (second ++ 46 ∷ first, at ∙ ap (λ text. second ++ 46 ∷ text) is ∙ sym (append_assoc second (46 ∷ first) (46 ∷ a)))
-
 -- two domains that follow dots of one host are equal, or one follows a dot of the other
 follows-compare : (a b prefix other : List ℕ) → prefix ++ 46 ∷ a ≡ other ++ 46 ∷ b → (a ≡ b) ⊎ Follows a b ⊎ Follows b a
 follows-compare a b [] [] same = inl (let tails : a ≡ b = cc in tails)

@@ -3,7 +3,7 @@ use Rattle.std.proofs.Common.{◌≡◌, ℕ, suc, ◌<◌, ◌≤◌, ◌++◌,
 use Rattle.std.specs.Prelude.{◌==◌}
 use Rattle.std.specs.Char.{digit_value, encode_utf8}
 use Rattle.std.specs.Fmt.{digits}
-use Rattle.std.specs.Str.{chars, NoCharPasses}
+use Rattle.std.specs.Str.{NoCharPasses}
 use Rattle.std.specs.Str.Parse.{AllDigits}
 use Rattle.std.proofs.lemmas.Bool.{lt-leb, not-true}
 use Rattle.std.proofs.lemmas.Bool.Decides.{leb_tells}
@@ -16,7 +16,7 @@ use Rattle.ucd_category.specs.declared.GeneralCategory.TheVariants.{Unassigned}
 use Rattle.ucd_category.proofs.GeneralCategoryLemmas.{general_category_stepped}
 use Rattle.ucd_table.proofs.Computing.{tables}
 use Rattle.ucd_table.proofs.Facts.{Stepped-below, Stepped-beyond}
-use Rattle.cookies.specs.Escapes.{escaped, escaped_char, is_escaped, is_escaped_category}
+use Rattle.cookies.specs.Escapes.{escaped_char, is_escaped, is_escaped_category}
 
 -- no character of the text is escaped
 abbrev pub IsSafe : List ℕ → Type 0
@@ -120,7 +120,3 @@ safe_char c =
 pub safe_chars : (cs : List ℕ) → IsSafe (flat_map escaped_char cs)
 safe_chars [] = NoCharPasses-nil is_escaped
 safe_chars (c ∷ cs) = NoCharPasses-append is_escaped (escaped_char c) (flat_map escaped_char cs) (safe_char c) (safe_chars cs)
-
--- escaped text
-pub safe_text : (text : List ℕ) → IsSafe (escaped text)
-safe_text text = safe_chars (chars text)

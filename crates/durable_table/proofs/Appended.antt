@@ -7,7 +7,7 @@ use Rattle.sqlite_trees.specs.View.{View, SetsTree}
 use Rattle.durable_table.specs.declared.change.Change.{Change}
 use Rattle.durable_table.specs.Changes.{after, after_each, changed, in_table, lists}
 use Rattle.durable_table.specs.Transactions.{Applies}
-use Rattle.durable_table.proofs.InTable.{in_table-none, in_table-twice}
+use Rattle.durable_table.proofs.InTable.{in_table-twice}
 
 pub after-append : (changes : List Change) (change : Change) (rows : List Row) → after (changes ++ change ∷ []) rows ≡ changed change (after changes rows)
 after-append [] change rows = refl
@@ -17,9 +17,6 @@ pub after_each-append : (transactions : List (List Change)) (changes : List Chan
     → after_each (transactions ++ changes ∷ []) rows ≡ after changes (after_each transactions rows)
 after_each-append [] changes rows = refl
 after_each-append (c ∷ transactions) changes rows = after_each-append transactions changes (after c rows)
-
-pub applies_none : (table : ℕ) (v : View) → Applies table [] v v
-applies_none table v = ap (λ trees. record v { trees = trees }) (sym (in_table-none table v.trees))
 
 pub applies_one_more : (table i : ℕ) (changes : List Change) (change : Change) (a m v : View) → i < length changes → change ≡ get_or changes i change
     → Applies table (take i changes) a m → SetsTree m v table (changed change) → Applies table (take (i + 1) changes) a v

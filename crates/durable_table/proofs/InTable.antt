@@ -9,10 +9,6 @@ use Rattle.durable_table.specs.Changes.{in_table}
 pub in_table-at : (table : ℕ) (edit : List Row → List Row) (trees : Trees) → in_table table edit trees table ≡ edit (trees table)
 in_table-at table edit trees = rw (eq-eqb table table refl) refl
 
-pub in_table-none : (table : ℕ) (trees : Trees) → in_table table (λ rows. rows) trees ≡ trees
-in_table-none table trees =
-    fun_ext (λ t. elim (cases_eq t table) [ inl same ↦ rw (same, eq-eqb table table refl) refl | inr other ↦ rw (ne_eqb t table other) refl ])
-
 pub in_table-twice : (table : ℕ) (first second : List Row → List Row) (trees : Trees)
     → in_table table second (in_table table first trees) ≡ in_table table (λ rows. second (first rows)) trees
 in_table-twice table first second trees =
