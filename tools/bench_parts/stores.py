@@ -159,7 +159,7 @@ def hostile_table(meter, own, *peers):
 exponent, and its instructions, which callgrind counts, as n to the power of the exponent of instructions: 0 does not grow, 1 is linear,
 2 is quadratic. Each must be linear or less: `tools/bench` fails if the exponent of the instructions of {own.name} is above
 {hostile.STEEPEST_COUNT}. A time grows faster where cookies fall out of the processor's caches, and while other programs run. So its
-exponent is judged only where instructions are not counted: then it must be at most {hostile.STEEPEST}, by the least times of
+exponent is judged only if instructions are not counted: then it must be at most {hostile.STEEPEST}, by the least times of
 {hostile.ATTEMPTS} measurements. Each n is large enough that fixed costs hardly matter. A strict store is that of the C library, if it is
 built. Where 16n would take too long, the exponents are those from n to 4n. `-` was not measured.'''
     result = growth_table('Hostile inputs', note, grown, own, *peers)
