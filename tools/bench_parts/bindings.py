@@ -41,6 +41,7 @@ HOSTS, EACH = 50, 20
 LARGE_HOSTS = 5000  # of a large store
 NOW = 1767225600  # 2026-01-01T00:00:00
 SECONDS = 0.2  # that a run takes
+RUNS = 3  # of a call, of which the least time counts
 LINES = 100_000  # of a cookies.txt file
 NODE_COOKIES = [1000, 100_000]
 STRICT = {'set': ('set_strict', 'set a cookie', 1.3), 'get_many': ('get_strict', f'header, {EACH} cookies a host', 1.2),
@@ -66,18 +67,30 @@ def build(folder, archive):
     return prefix, program
 
 
-def measure(call, inputs):
+def time_call(call, inputs):
     """The seconds that a call takes, on each of the inputs in turn."""
-    least = float('inf')
-    for _ in range(3):
-        calls, begun, spent = 0, time.process_time(), 0.0
-        while spent < SECONDS:
-            for each in inputs:
-                call(each)
-            calls += len(inputs)
-            spent = time.process_time() - begun
-        least = min(least, spent / calls)
-    return least
+    calls, begun, spent = 0, time.process_time(), 0.0
+    while spent < SECONDS:
+        for each in inputs:
+            call(each)
+        calls += len(inputs)
+        spent = time.process_time() - begun
+    return spent / calls
+
+
+def measure(call, inputs):
+    """The seconds that a call takes, the least of its runs."""
+    return min(time_call(call, inputs) for _ in range(RUNS))
+
+
+def measure_in_turn(columns):
+    """The seconds of each column's calls by their keys. Those of one key run one after the other, since the speed of a machine changes."""
+    took = [dict.fromkeys(calls, float('inf')) for calls in columns]
+    for _ in range(RUNS):
+        for key in columns[0]:
+            for least, calls in zip(took, columns):
+                least[key] = min(least[key], time_call(*calls[key]))
+    return took
 
 
 def measure_once(call):
@@ -100,19 +113,21 @@ def names(cookies):
     return [cookie.name for cookie in cookies]
 
 
-def measure_store(module):
+def calls_of_store(module):
+    """The calls of a CookieStore and their inputs, by key."""
     urls = [f'http://h{number}.example/a/b' for number in range(HOSTS)]
     many, one = module.CookieStore(), module.CookieStore()
     for url in urls:
         one.parse(url, 'c0=value0; Path=/', NOW)
-    took = {'set': measure(lambda pair: many.parse(*pair, NOW), [(url, header) for url in urls for header in HEADERS])}
-    took['response'] = measure(lambda url: many.receive(url, HEADERS, NOW), urls)
-    took['get_one'] = measure(lambda url: one.header(url, NOW), urls)
-    took['get_many'] = measure(lambda url: many.header(url, NOW), urls)
-    took['count'] = measure(lambda _: len(many), urls)
-    took['iterate'] = measure(lambda _: names(many), urls[:5])
-    took['iterate_changed'] = measure(lambda url: many.parse(url, HEADERS[0], NOW) and names(many), urls[:5])
-    return took
+    return {
+        'set': (lambda pair: many.parse(*pair, NOW), [(url, header) for url in urls for header in HEADERS]),
+        'response': (lambda url: many.receive(url, HEADERS, NOW), urls),
+        'get_one': (lambda url: one.header(url, NOW), urls),
+        'get_many': (lambda url: many.header(url, NOW), urls),
+        'count': (lambda _: len(many), urls),
+        'iterate': (lambda _: names(many), urls[:5]),
+        'iterate_changed': (lambda url: many.parse(url, HEADERS[0], NOW) and names(many), urls[:5]),
+    }
 
 
 def add_and_remove(jar, request):
@@ -122,19 +137,29 @@ def add_and_remove(jar, request):
         stop('a request has no Cookie header')
 
 
-def measure_jar(new):
+def calls_of_jar(new):
+    """The calls of a jar of Python and their inputs, by the keys of a store's but for `set`: a jar reads whole responses."""
     requests = [urllib.request.Request(f'http://h{number}.example/a/b') for number in range(HOSTS)]
     many, one, all_of, first = new(), new(), Response(HEADERS), Response(HEADERS[:1])
-    took = {'response': measure(lambda request: many.extract_cookies(all_of, request), requests)}
-    took['set'] = took['response'] / EACH
     for request in requests:
         one.extract_cookies(first, request)
-    took['get_one'] = measure(lambda request: add_and_remove(one, request), requests)
-    took['get_many'] = measure(lambda request: add_and_remove(many, request), requests)
-    took['count'] = measure(lambda _: len(many), requests[:5])
-    took['iterate'] = measure(lambda _: names(many), requests[:5])
-    took['iterate_changed'] = measure(lambda request: many.extract_cookies(first, request) or names(many), requests[:5])
-    return took
+    return {
+        'response': (lambda request: many.extract_cookies(all_of, request), requests),
+        'get_one': (lambda request: add_and_remove(one, request), requests),
+        'get_many': (lambda request: add_and_remove(many, request), requests),
+        'count': (lambda _: len(many), requests[:5]),
+        'iterate': (lambda _: names(many), requests[:5]),
+        'iterate_changed': (lambda request: many.extract_cookies(first, request) or names(many), requests[:5]),
+    }
+
+
+def measure_python(module):
+    """The seconds of the calls of a CookieStore, of a StoreJar and of http.cookiejar, by key."""
+    store = calls_of_store(module)
+    took = {'set': measure(*store.pop('set'))}
+    calls = [store, *(calls_of_jar(new) for new in (module.StoreJar, http.cookiejar.CookieJar))]
+    [own, *jars] = measure_in_turn(calls)
+    return [{**took, **own}, *({'set': each['response'] / EACH, **each} for each in jars)]
 
 
 def measure_files(module, path, each):
@@ -240,8 +265,7 @@ def run(options):
         sys.path.insert(0, f'{prefix}/lib/python3/dist-packages')
         os.environ['COOKIE_STORE_LIBRARY'] = f'{prefix}/lib/libcookie_store.so'
         module = importlib.import_module('cookie_store')
-        jars = [measure_jar(jar) for jar in (module.StoreJar, http.cookiejar.CookieJar)]
-        columns = [measure_c(program), measure_store(module), *jars]
+        columns = [measure_c(program), *measure_python(module)]
         files = {each: measure_files(module, f'{folder}/cookies.txt', each) for each in (EACH, 1)}
         requests = list(clients.measure_clients(module, measure))
         behind = [*print_calls(columns), *print_strict(columns[0]), *print_files(files), *clients.print_clients(requests)]

@@ -14,7 +14,10 @@ LEAST_SET = 1 / 1.5  # the least ratio of SetCookies, which parses each header v
 
 
 def measure_go(folder, prefix):
-    """The seconds of each call, the least of three runs, of one goroutine and of 16, by their names; none without Go."""
+    """The seconds of each call, the least of three runs, of one goroutine and of 16, by their names; none without Go.
+
+    Each run has all jars, since the speed of a machine changes.
+    """
     calls: dict[str, float] = {}
     shared: dict[str, float] = {}
     if not shutil.which('go'):
@@ -22,9 +25,10 @@ def measure_go(folder, prefix):
         return calls, shared
     package = shutil.copytree(f'{ROOT}/bindings/go', f'{folder}/go')
     environment = {**os.environ, 'PKG_CONFIG_PATH': f'{prefix}/lib/pkgconfig', 'LD_LIBRARY_PATH': f'{prefix}/lib'}
-    command = ['go', 'test', '-run', '^$', '-bench', 'Calls|SharedJar', '-count', str(RUNS), '.']
-    printed = subprocess.run(command, cwd=package, env=environment, check=True, stdout=subprocess.PIPE, text=True).stdout
-    for group, name, nanoseconds in BENCHMARK.findall(printed):
+    command = ['go', 'test', '-count', '1', '-run', '^$', '-bench', 'Calls|SharedJar', '.']
+    printed = [subprocess.run(command, cwd=package, env=environment, check=True, stdout=subprocess.PIPE, text=True).stdout
+               for _ in range(RUNS)]
+    for group, name, nanoseconds in BENCHMARK.findall('\n'.join(printed)):
         times = calls if group == 'Calls' else shared
         times[name] = min(times.get(name, float('inf')), float(nanoseconds) / 1e9)
     return calls, shared
